@@ -1,0 +1,3 @@
+mod NamePadding
+pub mod WritingLaws
+pub mod TableLaws

@@ -1,0 +1,68 @@
+//! A folder in memory that never fails.
+//! This project's own.
+ghost use Rattle.std.specs.Prelude.{◌≡◌, List, ℕ, None, OnOk, OnErr};
+ghost use Rattle.rcp_base.specs.Files.{with_file};
+
+use crate::{Folder, Memory, ReadError};
+use std::alloc::Global;
+use std::collections::BTreeMap;
+
+/// Files in memory, whose reads fail only for want of memory or of the name.
+#[derive(Drop)]
+pub struct SureFolder {
+    alloc: Global,
+    held: BTreeMap<String, Vec<u8>>,
+}
+
+impl SureFolder {
+    ghost use Rattle.rcp_base.specs.SureFolder.{files_of};
+
+    /// A folder without a file.
+    pub fn new(alloc: Global) -> SureFolder
+        ensures { (name : List ℕ) → files_of result name ≡ None }
+    {
+        SureFolder {
+            alloc,
+            held: BTreeMap::new(alloc),
+        }
+    }
+
+    /// Puts these bytes under this name, in place of what is there.
+    pub fn put(&mut self, name: &str, bytes: &[u8]) -> Result<(), Memory>
+        ensures ok { OnOk result ((other : List ℕ) → files_of self.new other ≡ with_file (files_of self.old) name.now bytes.now other) }
+        ensures err { OnErr result ((other : List ℕ) → files_of self.new other ≡ files_of self.old other) }
+    {
+        let name = String::from_str(self.alloc, name)?;
+        let bytes = bytes.to_vec(self.alloc)?;
+        self.held.insert(name, bytes)?;
+        Ok(())
+    }
+}
+
+impl Folder for SureFolder {
+    ghost use Rattle.std.specs.Prelude.{Some};
+    ghost use Rattle.rcp_base.specs.SureFolder.{files_of};
+
+    ghost files = { λ folder. Some (files_of folder) };
+
+    ghost faults = { λ _. 0 };
+
+    fn read(
+        &mut self,
+        _alloc: Global,
+        name: &str,
+        limit: u64,
+        into: &mut Vec<u8>,
+    ) -> Result<(), ReadError> {
+        let Some(bytes) = self.held.get(name) else {
+            return Err(ReadError::Failed);
+        };
+        if into.extend_from_slice(bytes).is_err() {
+            Err(ReadError::Memory)
+        } else if bytes.len() as u64 > limit {
+            Err(ReadError::TooLong)
+        } else {
+            Ok(())
+        }
+    }
+}

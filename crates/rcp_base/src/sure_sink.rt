@@ -1,0 +1,53 @@
+//! A sink in memory that never fails.
+//! This project's own.
+ghost use Rattle.std.specs.Prelude.{◌≡◌, []};
+
+use crate::{Sink, WriteError};
+use std::alloc::Global;
+use std::marker::Model;
+
+/// What was written, in memory. A write fails only for want of memory. Contracts see it as the bytes written.
+#[derive(Drop)]
+pub struct SureSink {
+    bytes: Vec<u8>,
+}
+
+impl Model for SureSink {
+    ghost use Rattle.std.specs.Prelude.{List, ℕ};
+
+    ghost Value = { List ℕ };
+
+    ghost view = { λ sink. sink.bytes.items };
+}
+
+impl SureSink {
+    pub fn new(alloc: Global) -> SureSink
+        ensures { result ≡ [] }
+    {
+        SureSink {
+            bytes: Vec::new(alloc),
+        }
+    }
+
+    /// What was written so far.
+    pub fn bytes(&self) -> &[u8]
+        ensures { result.now ≡ self.now }
+    {
+        self.bytes.as_slice()
+    }
+}
+
+impl Sink for SureSink {
+    ghost use Rattle.std.specs.Prelude.{Some};
+
+    ghost written = { λ sink. Some sink };
+
+    ghost faults = { λ _. 0 };
+
+    fn write_all(&mut self, bytes: &[u8]) -> Result<(), WriteError> {
+        match self.bytes.extend_from_slice(bytes) {
+            Ok(()) => Ok(()),
+            Err(_) => Err(WriteError::Memory),
+        }
+    }
+}

@@ -1,0 +1,4 @@
+pub mod Expr
+pub mod Task
+pub mod Slot
+pub mod Uniprocessor

@@ -1,0 +1,11 @@
+//! What a control computer is to do: the parts of a plan, and the definitions of what they mean.
+//! After NASA TM-102716.
+#![tactic(auto)]
+
+mod expr;
+mod plan;
+mod task;
+
+pub use expr::{Expr, Op};
+pub use plan::{ActuatorRow, PlanParts, SlotRow, Timing, Variable};
+pub use task::{LetRow, SetRow, Task};
