@@ -17,9 +17,13 @@ no_task = record { name = []; lets = []; sets = [] }
 abbrev pub no_slot : SlotRow
 no_slot = record { tasks = []; votes = [] }
 
+-- the tasks with these numbers
+abbrev pub numbered : List Task → List ℕ → List Task
+numbered tasks numbers = map (λ number. slice_index_or tasks number no_task) numbers
+
 -- the tasks of a slot, in order
 abbrev pub tasks_of : PlanParts → ℕ → List Task
-tasks_of plan slot = map (λ k. slice_index_or plan.tasks k no_task) (slice_index_or plan.slots slot no_slot).tasks
+tasks_of plan slot = numbered plan.tasks (slice_index_or plan.slots slot no_slot).tasks
 
 -- the cells behind tasks that run one after the other
 abbrev pub cells_after_tasks : List Task → List ℤ → List ℤ → List ℤ
