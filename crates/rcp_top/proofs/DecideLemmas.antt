@@ -1,0 +1,157 @@
+-- What is due behind each read, where the folder tells its files.
+use Rattle.std.proofs.Common.{◌≡◌, ◌⊎◌, ℕ, ◌+◌, ◌-◌, ◌^◌, ◌<◌, ◌≤◌, min, List, [], ◌∷◌, length, Bool, true, false, cond, nat_le, codes, Option, Some, None, Result, Ok, Err, IfOk, refl, inl, inr, sym, ap, ◌∙◌, subst, arith, option_and_then}
+use Rattle.std.proofs.lemmas.Bool.{lt-leb}
+use Rattle.std.specs.Str.{bytes_eq}
+use Rattle.rcp_base.specs.declared.memory.Memory.{Memory}
+use Rattle.rcp_base.specs.Files.{Files, IfTold, IsLonger, IsMissing, Rises}
+use Rattle.rcp_model.specs.declared.plan.PlanParts.{PlanParts}
+use Rattle.rcp_top.specs.declared.answer.Answer.{Answer}
+use Rattle.rcp_top.specs.declared.answer.Answer.TheVariants as answer
+use Rattle.rcp_top.specs.declared.unread.Unread.{Unread}
+use Rattle.rcp_top.specs.declared.unread.Unread.TheVariants.{Unbuilt}
+use Rattle.rcp_top.specs.Ending.{EndsOverSeen, IsSeen, HasCause}
+use Rattle.rcp_top.specs.Outcome.{Outcome, ideal_words, of_words, outcome_of, outcome_of_answer, of_frames, of_journal, of_plan, of_files, unreadable, usage, journal_refused, task_refused}
+use Rattle.rcp_top.specs.Seen.{IsOfJournal, IsOfPlan, IsOfFiles}
+use Rattle.rcp_top.specs.SmallFile.{small_file, text_of, document_of, document_parts}
+use Rattle.rcp_top.specs.SmallJournal.{small_journal, frames_of_records, records_of}
+use Rattle.rcp_top.specs.Unread.{◌>>=◌}
+use Rattle.rcp_top.proofs.SeenLemmas.{seen_files, seen_more}
+
+-- a journal over the limit is refused
+long_journal : (bytes : List ℕ) → 67108864 < length bytes → small_journal bytes ≡ Err Unbuilt
+unfolding small_journal
+long_journal bytes longer = ap (λ b. cond b (frames_of_records (records_of bytes)) (Err Unbuilt)) (lt-leb (length bytes) 67108864 longer)
+
+-- a task file over the limit is refused
+long_file : (bytes : List ℕ) → 1048576 < length bytes → small_file bytes ≡ Err Unbuilt
+unfolding small_file
+long_file bytes longer =
+    ap (λ b. cond b (text_of bytes >>= document_of >>= document_parts) (Err Unbuilt)) (lt-leb (length bytes) 1048576 longer)
+
+pub journal_was_read : (told : Option Files) (plan : PlanParts) (journal bytes : List ℕ) (failed : Type 0) (result : Result Answer Memory)
+    → IfTold told (λ files. files journal ≡ Some bytes) → IfOk result (λ answer. outcome_of_answer answer ≡ of_frames plan (small_journal bytes))
+    → IfOk result (λ answer. IfTold told (λ files. IsOfJournal plan journal (files journal) failed (outcome_of_answer answer)))
+journal_was_read told plan journal bytes failed (Err e) held due = tt
+journal_was_read None plan journal bytes failed (Ok answer) held due = tt
+journal_was_read (Some files) plan journal bytes failed (Ok answer) held due = record { seen = Some bytes; is_seen = inl (sym held); is_due = due }
+
+pub journal_was_too_long : (told : Option Files) (plan : PlanParts) (journal : List ℕ) (failed : Type 0)
+    → IfTold told (λ files. IsLonger files journal 67108864) → IfTold told (λ files. IsOfJournal plan journal (files journal) failed journal_refused)
+journal_was_too_long None plan journal failed long = tt
+journal_was_too_long (Some files) plan journal failed long = record {
+  seen = Some long.bytes;
+  is_seen = inl (sym long.held);
+  is_due = ap (of_frames plan) (sym (long_journal long.bytes long.longer));
+}
+
+pub file_was_none : (told : Option Files) (journal : List ℕ) (given : Result PlanParts Unread) (failed : Type 0)
+    → given ≡ Err Unbuilt → IfTold told (λ files. IsOfPlan journal (files journal) failed given task_refused)
+file_was_none None journal given failed none = tt
+file_was_none (Some files) journal given failed none = record { seen = files journal; is_seen = inl refl; is_due = ap (of_plan journal (files journal)) (sym none) }
+
+rises_since : (a b c : ℕ) → a ≤ b → Rises b c → Rises a c
+rises_since a b c later rises = omega (arith, later, rises)
+
+cause_since_count : (told : Option Files) (before between now : ℕ) (words : List (List ℕ)) (given : Answer) → before ≤ between
+    → HasCause told between now words given → HasCause told before now words given
+cause_since_count told before between now words (answer.Unreadable name) later (inl rises) = inl (rises_since before between now later rises)
+cause_since_count told before between now words (answer.Unreadable name) later (inr missing) = inr missing
+cause_since_count told before between now words answer.Usage later cause = tt
+cause_since_count told before between now words answer.TaskRefused later cause = tt
+cause_since_count told before between now words answer.JournalRefused later cause = tt
+cause_since_count told before between now words (answer.Ideal plan frames) later cause = tt
+
+-- the cause of an answer that was read from a later count on
+pub cause_since : (told told_then : Option Files) (before between now : ℕ) (words : List (List ℕ)) (result : Result Answer Memory)
+    → told_then ≡ told → before ≤ between → IfOk result (HasCause told_then between now words) → IfOk result (HasCause told before now words)
+cause_since told told_then before between now words (Err e) same later cause = tt
+cause_since told told_then before between now words (Ok given) same later cause =
+    let P : Option Files → Type 0 = λ told. HasCause told between now words given in
+    cause_since_count told before between now words given later (subst P same cause)
+
+pub file_was_read : (told told_then : Option Files) (file journal bytes : List ℕ) (before between now : ℕ) (result : Result Answer Memory)
+    → told_then ≡ told → before ≤ between → IfTold told (λ files. files file ≡ Some bytes)
+    → IfOk result (λ answer. IfTold told_then (λ files. IsOfPlan journal (files journal) (Rises between now) (small_file bytes) (outcome_of_answer answer)))
+    → IfOk result (λ answer. IfTold told (λ files. IsOfFiles file journal (files file) (files journal) (Rises before now) (outcome_of_answer answer)))
+file_was_read told told_then file journal bytes before between now (Err e) same later held due = tt
+file_was_read None told_then file journal bytes before between now (Ok answer) same later held due = tt
+file_was_read (Some files) told_then file journal bytes before between now (Ok answer) same later held due =
+    let P : Option Files → Type 0 =
+    λ told. IfTold told (λ files. IsOfPlan journal (files journal) (Rises between now) (small_file bytes) (outcome_of_answer answer))
+    in
+    let of = subst P same due in
+    record {
+      file_seen = Some bytes;
+      file_is_seen = inl (sym held);
+      journal_seen = of.seen;
+      journal_is_seen = seen_more (files journal) of.seen (Rises between now) (Rises before now) (rises_since before between now later) of.is_seen;
+      is_due = of.is_due;
+    }
+
+pub file_was_too_long : (told : Option Files) (file journal : List ℕ) (failed : Type 0)
+    → IfTold told (λ files. IsLonger files file 1048576)
+    → IfTold told (λ files. IsOfFiles file journal (files file) (files journal) failed task_refused)
+file_was_too_long None file journal failed long = tt
+file_was_too_long (Some files) file journal failed long = record {
+  file_seen = Some long.bytes;
+  file_is_seen = inl (sym long.held);
+  journal_seen = files journal;
+  journal_is_seen = inl refl;
+  is_due = ap (of_plan journal (files journal)) (sym (long_file long.bytes long.longer));
+}
+
+pub file_was_unreadable : (told : Option Files) (file journal : List ℕ) (failed : Type 0)
+    → failed ⊎ IsMissing told file → IfTold told (λ files. IsOfFiles file journal (files file) (files journal) failed (unreadable file))
+file_was_unreadable None file journal failed cause = tt
+file_was_unreadable (Some files) file journal failed (inl fault) =
+    record { file_seen = None; file_is_seen = inr (fault, refl); journal_seen = files journal; journal_is_seen = inl refl; is_due = refl }
+file_was_unreadable (Some files) file journal failed (inr missing) =
+    record { file_seen = None; file_is_seen = inl (sym missing); journal_seen = files journal; journal_is_seen = inl refl; is_due = refl }
+
+-- words that name the run of the single processor
+words_are : (words : List (List ℕ)) (file journal : List ℕ) → ideal_words words ≡ Some (file, journal) → (word : List ℕ) × (words ≡ word ∷ file ∷ journal ∷ [])
+words_are [] file journal is = cc is
+words_are (a ∷ []) file journal is = cc is
+words_are (a ∷ b ∷ []) file journal is = cc is
+words_are (a ∷ b ∷ c ∷ []) file journal is = by_test (bytes_eq a (codes "ideal")) is
+  where
+    by_test : (t : Bool) → cond {A = Option (List ℕ × List ℕ)} t (Some (b, c)) None ≡ Some (file, journal) → (word : List ℕ) × (a ∷ b ∷ c ∷ [] ≡ word ∷ file ∷ journal ∷ [])
+    by_test true is =
+        let same : ◌≡◌ {A = List ℕ × List ℕ} (b, c) (file, journal) = cc is in
+        (a, ap (λ (p : List ℕ × List ℕ). a ∷ p.0 ∷ p.1 ∷ []) same)
+    by_test false is = cc is
+words_are (a ∷ b ∷ c ∷ d ∷ words) file journal is = cc is
+
+pub words_were_ideal : (told : Option Files) (words : List (List ℕ)) (file journal : List ℕ) (failed : Type 0) (result : Result Answer Memory)
+    → ideal_words words ≡ Some (file, journal)
+    → IfOk result (λ answer. IfTold told (λ files. IsOfFiles file journal (files file) (files journal) failed (outcome_of_answer answer)))
+    → IfOk result (λ answer. IfTold told (λ files. EndsOverSeen words files failed (λ due. outcome_of_answer answer ≡ due)))
+words_were_ideal told words file journal failed (Err e) is of = tt
+words_were_ideal None words file journal failed (Ok answer) is of = tt
+words_were_ideal (Some files) words file journal failed (Ok answer) is of =
+    let due = seen_files file journal files failed (outcome_of_answer answer) of in
+    record { seen = due.seen; are_seen = due.are_seen; ended = due.is_due ∙ ap (λ form. of_words form due.seen) (sym is) }
+
+cause_of_more : (told : Option Files) (before now : ℕ) (word : List ℕ) (words : List (List ℕ)) (answer : Answer)
+    → HasCause told before now words answer → HasCause told before now (word ∷ words) answer
+cause_of_more told before now word words (answer.Unreadable name) (inl rises) = inl rises
+cause_of_more told before now word words (answer.Unreadable name) (inr missing) = inr (inr missing)
+cause_of_more told before now word words answer.Usage cause = tt
+cause_of_more told before now word words answer.TaskRefused cause = tt
+cause_of_more told before now word words answer.JournalRefused cause = tt
+cause_of_more told before now word words (answer.Ideal plan frames) cause = tt
+
+pub cause_of_words : (told : Option Files) (before now : ℕ) (words : List (List ℕ)) (file journal : List ℕ) (result : Result Answer Memory)
+    → ideal_words words ≡ Some (file, journal) → IfOk result (HasCause told before now (file ∷ journal ∷ [])) → IfOk result (HasCause told before now words)
+cause_of_words told before now words file journal (Err e) is cause = tt
+cause_of_words told before now words file journal (Ok answer) is cause =
+    let named = words_are words file journal is in
+    let P : List (List ℕ) → Type 0 = λ names. HasCause told before now names answer in
+    subst P (sym named.1) (cause_of_more told before now named.0 (file ∷ journal ∷ []) answer cause)
+
+-- words that are no form
+pub words_were_none : (told : Option Files) (words : List (List ℕ)) (failed : Type 0) → ideal_words words ≡ None
+    → IfTold told (λ files. EndsOverSeen words files failed (λ due. usage ≡ due))
+words_were_none None words failed is = tt
+words_were_none (Some files) words failed is =
+    record { seen = files; are_seen = λ name. inl refl; ended = ap (λ form. of_words form files) (sym is) }

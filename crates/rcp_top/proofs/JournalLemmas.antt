@@ -1,0 +1,10 @@
+-- Records that are not two.
+use Rattle.std.proofs.Common.{◌≡◌, ℕ, suc, List, [], ◌∷◌, length, Err, refl, arith}
+use Rattle.rcp_top.specs.declared.unread.Unread.TheVariants.{Unbuilt}
+use Rattle.rcp_top.specs.SmallJournal.{Fields, frames_of_records}
+
+pub not_two_records : (records : List Fields) → (length records ≡ 2 → ⊥) → frames_of_records records ≡ Err Unbuilt
+not_two_records [] not_two = refl
+not_two_records (a ∷ []) not_two = refl
+not_two_records (a ∷ b ∷ []) not_two = absurd (not_two refl)
+not_two_records (a ∷ b ∷ c ∷ records) not_two = refl

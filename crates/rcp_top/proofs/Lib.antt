@@ -1,0 +1,11 @@
+pub mod DocumentLemmas
+pub mod TextLemmas
+pub mod RecordLemmas
+pub mod DigitLemmas
+pub mod JournalLemmas
+pub mod ProcessorLemmas
+pub mod FrameLemmas
+pub mod VoteLemmas
+pub mod EndingLemmas
+pub mod SeenLemmas
+pub mod DecideLemmas

@@ -1,0 +1,102 @@
+-- What a call is to answer and to write, over the words and the files.
+use Rattle.std.specs.Prelude.{ℕ, ℤ, List, [], ◌∷◌, ◌++◌, length, codes, flat_map, replicate, Option, Some, None, Result, Ok, Err, if◌then◌else◌}
+use Rattle.std.specs.Str.{bytes_eq}
+use Rattle.rcp_base.specs.Files.{Files}
+use Rattle.rcp_model.specs.declared.plan.ActuatorRow.{ActuatorRow}
+use Rattle.rcp_model.specs.declared.plan.PlanParts.{PlanParts}
+use Rattle.rcp_model.specs.Uniprocessor.{ProcessorState, initial_values, ideal_state, ideal_command}
+use Rattle.rcp_top.specs.declared.answer.Answer.{Answer}
+use Rattle.rcp_top.specs.declared.answer.Answer.TheVariants as answer
+use Rattle.rcp_top.specs.declared.status.Status.{Status}
+use Rattle.rcp_top.specs.declared.status.Status.TheVariants as status
+use Rattle.rcp_top.specs.declared.unread.Unread.{Unread}
+use Rattle.rcp_top.specs.Lines.{frame_line, vote_line, ideal_line, end_line, unreadable_line, usage_line, task_refused_line, journal_refused_line}
+use Rattle.rcp_top.specs.SmallFile.{small_file}
+use Rattle.rcp_top.specs.SmallJournal.{small_journal}
+
+-- a status and a text
+pub record Outcome : Type 0 where
+  pub status : Status
+  pub text : List ℕ
+
+-- a line for each actuator, with its command
+abbrev pub vote_lines : List ActuatorRow → (ActuatorRow → ℤ) → List ℕ
+vote_lines actuators command = flat_map (λ (actuator : ActuatorRow). vote_line actuator.name (command actuator)) actuators
+
+-- the lines of frame t, by the commands and the state behind it
+unfoldable pub frame_text : ℕ → List ActuatorRow → (ActuatorRow → ℤ) → ProcessorState → List ℕ
+frame_text t actuators command state = frame_line t ++ (vote_lines actuators command ++ ideal_line state)
+
+-- the lines of the frames with these sensors, oldest first, which follow the frames past
+unfoldable pub frames_text : PlanParts → List (List ℤ) → List (List ℤ) → List ℕ
+frames_text plan past [] = []
+frames_text plan past (sensors ∷ frames) =
+    frame_text (length past) plan.actuators (λ actuator. ideal_command plan actuator sensors past) (ideal_state plan (sensors ∷ past))
+    ++ frames_text plan (sensors ∷ past) frames
+
+-- the text of the single processor over the sensors of all frames, oldest first
+unfoldable pub ideal_text : PlanParts → List (List ℤ) → List ℕ
+ideal_text plan frames = frames_text plan [] frames ++ end_line (length frames)
+
+-- the sensors of frames in which no sensor changes
+abbrev pub unchanged : PlanParts → ℕ → List (List ℤ)
+unchanged plan frames = replicate frames (initial_values plan.sensors)
+
+-- the refusals
+abbrev pub usage : Outcome
+usage = record { status = status.Usage; text = usage_line }
+
+abbrev pub task_refused : Outcome
+task_refused = record { status = status.TaskRefused; text = task_refused_line }
+
+abbrev pub journal_refused : Outcome
+journal_refused = record { status = status.JournalRefused; text = journal_refused_line }
+
+abbrev pub unreadable : List ℕ → Outcome
+unreadable word = record { status = status.ReadFault; text = unreadable_line word }
+
+-- a run of the single processor over so many frames
+abbrev pub ideal_run : PlanParts → ℕ → Outcome
+ideal_run plan frames = record { status = status.Done; text = ideal_text plan (unchanged plan frames) }
+
+-- by how many frames the journal gives
+abbrev pub of_frames : PlanParts → Result ℕ Unread → Outcome
+of_frames plan (Ok frames) = ideal_run plan frames
+of_frames plan (Err unread) = journal_refused
+
+-- by what is held under the journal's word
+abbrev pub of_journal : PlanParts → List ℕ → Option (List ℕ) → Outcome
+of_journal plan word None = unreadable word
+of_journal plan word (Some bytes) = of_frames plan (small_journal bytes)
+
+-- by the plan that the task file gives
+abbrev pub of_plan : List ℕ → Option (List ℕ) → Result PlanParts Unread → Outcome
+of_plan journal held (Ok plan) = of_journal plan journal held
+of_plan journal held (Err unread) = task_refused
+
+-- by what is held under the words of the task file and of the journal
+abbrev pub of_files : List ℕ → List ℕ → Option (List ℕ) → Option (List ℕ) → Outcome
+of_files file journal None journal_held = unreadable file
+of_files file journal (Some bytes) journal_held = of_plan journal journal_held (small_file bytes)
+
+-- the words of the task file and of the journal, where the words are `ideal FILE JOURNAL`
+abbrev pub ideal_words : List (List ℕ) → Option (List ℕ × List ℕ)
+ideal_words (word ∷ file ∷ journal ∷ []) = if bytes_eq word (codes "ideal") then Some (file, journal) else None
+ideal_words _ = None
+
+-- by the form of the words
+abbrev pub of_words : Option (List ℕ × List ℕ) → Files → Outcome
+of_words (Some (file, journal)) files = of_files file journal (files file) (files journal)
+of_words None files = usage
+
+-- what a call with these words is to answer and to write, over these files
+abbrev pub outcome_of : List (List ℕ) → Files → Outcome
+outcome_of words files = of_words (ideal_words words) files
+
+-- the outcome that an answer stands for
+abbrev pub outcome_of_answer : Answer → Outcome
+outcome_of_answer answer.Usage = usage
+outcome_of_answer (answer.Unreadable word) = unreadable word.now
+outcome_of_answer answer.TaskRefused = task_refused
+outcome_of_answer answer.JournalRefused = journal_refused
+outcome_of_answer (answer.Ideal plan frames) = ideal_run plan frames

@@ -1,0 +1,36 @@
+-- What is due, by what the reads have seen.
+use Rattle.std.specs.Prelude.{◌≡◌, ℕ, List, ⊤, Option, Result, Ok, Err}
+use Rattle.rcp_model.specs.declared.plan.PlanParts.{PlanParts}
+use Rattle.rcp_top.specs.declared.answer.Answer.{Answer}
+use Rattle.rcp_top.specs.declared.answer.Answer.TheVariants as answer
+use Rattle.rcp_top.specs.declared.unread.Unread.{Unread}
+use Rattle.rcp_top.specs.Ending.{IsSeen}
+use Rattle.rcp_top.specs.Outcome.{Outcome, of_journal, of_plan, of_files}
+
+-- the outcome of a plan and of what was seen under the journal's word, where this is held
+pub record IsOfJournal (plan : PlanParts) (journal : List ℕ) (held : Option (List ℕ)) (failed : Type 0) (due : Outcome) : Type 0 where
+  pub seen : Option (List ℕ)
+  pub is_seen : IsSeen held failed seen
+  pub is_due : due ≡ of_journal plan journal seen
+
+-- the same, of what the task file gives
+pub record IsOfPlan (journal : List ℕ) (held : Option (List ℕ)) (failed : Type 0) (given : Result PlanParts Unread) (due : Outcome) : Type 0 where
+  pub seen : Option (List ℕ)
+  pub is_seen : IsSeen held failed seen
+  pub is_due : due ≡ of_plan journal seen given
+
+-- the same, of what was seen under both words
+pub record IsOfFiles (file journal : List ℕ) (file_held journal_held : Option (List ℕ)) (failed : Type 0) (due : Outcome) : Type 0 where
+  pub file_seen : Option (List ℕ)
+  pub file_is_seen : IsSeen file_held failed file_seen
+  pub journal_seen : Option (List ℕ)
+  pub journal_is_seen : IsSeen journal_held failed journal_seen
+  pub is_due : due ≡ of_files file journal file_seen journal_seen
+
+-- each file that the answer wanted was read
+abbrev pub IsNotUnreadable : Answer → Type 0
+IsNotUnreadable (answer.Unreadable word) = ⊥
+IsNotUnreadable answer.Usage = ⊤
+IsNotUnreadable answer.TaskRefused = ⊤
+IsNotUnreadable answer.JournalRefused = ⊤
+IsNotUnreadable (answer.Ideal plan frames) = ⊤

@@ -1,0 +1,15 @@
+//! What the words and the files make due, once all is read and before anything is written.
+//! This project's own.
+use rcp_model::PlanParts;
+
+/// What is due.
+#[derive(Drop)]
+pub enum Answer<'a> {
+    Usage,
+    /// The file under this word was not read.
+    Unreadable(&'a str),
+    TaskRefused,
+    JournalRefused,
+    /// The run of one faultless processor.
+    Ideal { plan: PlanParts, frames: u32 },
+}

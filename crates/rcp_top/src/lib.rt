@@ -1,0 +1,20 @@
+//! The program's one call: from words and the bytes of two files to the bytes that are printed, and a status.
+//! This project's own.
+#![tactic(auto)]
+
+mod answer;
+mod decide;
+mod document;
+mod ideal;
+mod lines;
+mod processor;
+mod records;
+mod small_file;
+mod small_journal;
+mod status;
+mod top;
+mod unread;
+mod write;
+
+pub use status::Status;
+pub use top::rcp;

@@ -1,0 +1,51 @@
+//! Writes an answer: touches no folder.
+//! This project's own.
+ghost use Rattle.std.specs.Prelude.{◌≡◌, ℕ, List, IfOk};
+ghost use Rattle.rcp_top.specs.Ending.{Ends, status_after};
+ghost use Rattle.rcp_top.specs.Outcome.{outcome_of_answer, unreadable};
+
+use crate::answer::Answer;
+use crate::ideal::{send, write_ideal};
+use crate::lines::{journal_refused_line, task_refused_line, unreadable_line, usage_line};
+use crate::status::Status;
+use rcp_base::{Memory, Sink, WriteError};
+use std::alloc::Global;
+
+/// Writes what is due.
+pub fn write_answer<S: Sink>(alloc: Global, answer: Answer<'_>, out: &mut S) -> Status
+    ensures { Ends (outcome_of_answer answer.entry) result (S.written out.old) (S.written out.new) (S.faults out.old) (S.faults out.new) }
+{
+    match answer {
+        Answer::Usage => write_line(out, Status::Usage, usage_line()),
+        Answer::Unreadable(word) => write_unreadable(alloc, word, out),
+        Answer::TaskRefused => write_line(out, Status::TaskRefused, task_refused_line()),
+        Answer::JournalRefused => write_line(out, Status::JournalRefused, journal_refused_line()),
+        Answer::Ideal { plan, frames } => end(Status::Done, write_ideal(alloc, &plan, frames, out)),
+    }
+}
+
+// The status behind a write.
+fn end(due: Status, written: Result<(), WriteError>) -> Status
+    ensures { result ≡ status_after due written }
+{
+    match written {
+        Ok(()) => due,
+        Err(WriteError::Failed) => Status::WriteFault,
+        Err(WriteError::Memory) => Status::Memory,
+    }
+}
+
+#[tactic(auto, using(crate::proofs::EndingLemmas::ends_behind_write))]
+fn write_line<S: Sink>(out: &mut S, due: Status, line: &[u8]) -> Status
+    ensures { Ends (record { status = due; text = line.now }) result (S.written out.old) (S.written out.new) (S.faults out.old) (S.faults out.new) }
+{
+    end(due, out.write_all(line))
+}
+
+#[tactic(auto, using(crate::proofs::EndingLemmas::ends_behind_write))]
+fn write_unreadable<S: Sink>(alloc: Global, word: &str, out: &mut S) -> Status
+    ensures { Ends (unreadable word.now) result (S.written out.old) (S.written out.new) (S.faults out.old) (S.faults out.new) }
+{
+    let line: Result<Vec<u8>, Memory> = unreadable_line(alloc, word);
+    end(Status::ReadFault, send(out, line))
+}
