@@ -1,0 +1,2 @@
+pub mod StdFolder
+pub mod StdOut
