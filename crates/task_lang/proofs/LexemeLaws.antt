@@ -27,9 +27,9 @@ read_by_cases text (Ok n) digits is = grind (arith, common_steps)
 read_by_cases text (Err fault) digits is = grind (arith, common_steps)
 
 -- a text of digits is read as the number that it is
-pub number_of-parsed : {E : Type 0} (text : List ℕ) (read : Result ℤ E) → list_all is_ascii_digit text ≡ true
+pub number_of_parsed : {E : Type 0} (text : List ℕ) (read : Result ℤ E) → list_all is_ascii_digit text ≡ true
     → ParsesSigned w64 10 text read → result_ok read ≡ number_of text
-number_of-parsed text read digits is =
+number_of_parsed text read digits is =
     read_by_cases text read digits (parse_signed_digits digits_are_numerals w64 text read is digits)
 
 -- bytes that pass a test for ASCII are ASCII
@@ -73,9 +73,9 @@ unlike lexeme literal broken ascii = false_if_not (bytes_eq lexeme literal) (λ 
     broken (subst P (sym ((bytes_eq-Decides lexeme literal).0 same)) (IsUtf8-from_ascii literal ascii)))
 
 -- a text that is not UTF-8 is no token
-pub token_of-broken : (lexeme : List ℕ) → ¬ (IsUtf8 lexeme) → Bad ≡ token_of lexeme
+pub token_of_broken : (lexeme : List ℕ) → ¬ (IsUtf8 lexeme) → Bad ≡ token_of lexeme
 unfolding token_of
-token_of-broken lexeme broken =
+token_of_broken lexeme broken =
     let digits : list_all is_ascii_digit lexeme ≡ false =
     false_if_not _ (λ h. broken (IsUtf8-from_ascii lexeme (ascii_by_test is_ascii_digit digit_below lexeme h))) in
     let name : is_name lexeme ≡ false = false_if_not _ (λ h. broken (IsUtf8-from_ascii lexeme (name_ascii lexeme h))) in
