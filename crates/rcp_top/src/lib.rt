@@ -18,3 +18,6 @@ mod write;
 
 pub use status::Status;
 pub use top::rcp;
+
+#[cfg(test)]
+mod tests;
