@@ -3,7 +3,7 @@
 use Rattle.std.specs.Prelude.{ℕ, Bool, true, false, List, [], ◌∷◌, position, fold, Option, Some, None, ok_or, option_map, option_and_then, Result, if◌then◌else◌}
 use Rattle.std.specs.Str.{bytes_eq}
 use Rattle.rcp_model.specs.declared.expr.Expr.{Expr}
-use Rattle.rcp_model.specs.declared.expr.Expr.TheVariants as e
+use Rattle.rcp_model.specs.declared.expr.Expr.TheVariants as expr
 use Rattle.rcp_model.specs.declared.expr.Op.{Op}
 use Rattle.rcp_model.specs.declared.expr.Op.TheVariants.{Add, Sub}
 use Rattle.rcp_model.specs.declared.task.SetRow.{SetRow}
@@ -29,13 +29,13 @@ place_of name names = position (bytes_eq name) names
 
 -- a sensor, or else a cell
 abbrev pub sensor_or_cell : Option ℕ → Option ℕ → Option Expr
-sensor_or_cell (Some i) _ = Some (e.Sensor i)
-sensor_or_cell None (Some i) = Some (e.Cell i)
+sensor_or_cell (Some i) _ = Some (expr.Sensor i)
+sensor_or_cell None (Some i) = Some (expr.Cell i)
 sensor_or_cell None None = None
 
 -- a number, or the name of a sensor or a cell
 abbrev pub operand_of : Names → Names → Token → Option Expr
-operand_of sensors cells (Number n) = Some (e.Number n)
+operand_of sensors cells (Number n) = Some (expr.Number n)
 operand_of sensors cells (Word name) = sensor_or_cell (place_of name sensors) (place_of name cells)
 operand_of sensors cells _ = None
 
@@ -56,7 +56,7 @@ pairs_of sensors cells (x ∷ y ∷ rest) = do
 
 -- an expression, and an operator with the operand to its right
 abbrev pub joined : Expr → Op × Expr → Expr
-joined left (operator, right) = e.Two operator left right
+joined left (operator, right) = expr.Two operator left right
 
 -- an expression and the pairs behind it, grouped to the left
 abbrev pub sum_from : Names → Names → Expr → List Token → Option Expr
