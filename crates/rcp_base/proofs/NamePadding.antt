@@ -2,8 +2,7 @@
 use Rattle.std.proofs.Common.{◌≡◌, ℕ, ◌≤◌, ◌+◌, ◌-◌, List, ◌++◌, length, take, drop, replicate, sym, ap, ◌∙◌, arith, length-append}
 use Rattle.std.proofs.Math.Seq.{take-append_seam}
 use Rattle.std.proofs.lemmas.List.{length-replicate, drop-replicate}
-use Rattle.rcp_base.specs.declared.name.Name.TheInside.{Inside}
-use Rattle.rcp_base.specs.NameFields.{IsPadded, padded_with_zeros}
+use Rattle.rcp_base.specs.NameFields.{IsPadded}
 
 -- the same at any size, since a numeral would compute
 padded_to : (n size : ℕ) (bytes : List ℕ) → length bytes ≡ n → n ≤ size

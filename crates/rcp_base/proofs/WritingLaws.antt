@@ -1,9 +1,8 @@
 -- Writes one after the other: what a run of writes says of the whole text.
-use Rattle.std.proofs.Common.{◌≡◌, ℕ, ◌≤◌, List, [], ◌++◌, Option, Result, Ok, Err, append_assoc, append-nil, sym, refl, ap, ◌∙◌, arith, subst}
+use Rattle.std.proofs.Common.{◌≡◌, ℕ, List, [], ◌++◌, Option, Result, Ok, Err, append_assoc, append-nil, sym, refl, ap, ◌∙◌, arith, subst}
 use Rattle.std.proofs.KnownBytes.{Appends-nil, Appends-trans}
 use Rattle.rcp_base.specs.declared.sink.WriteError.{WriteError}
 use Rattle.rcp_base.specs.declared.sink.WriteError.TheVariants as write
-use Rattle.rcp_base.specs.Files.{Rises}
 use Rattle.rcp_base.specs.Writing.{AppendsFront, Writes, Progress}
 
 -- nothing is a front of each text

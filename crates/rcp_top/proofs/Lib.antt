@@ -1,11 +1,11 @@
-pub mod DocumentLemmas
-pub mod TextLemmas
-pub mod RecordLemmas
-pub mod DigitLemmas
-pub mod JournalLemmas
-pub mod ProcessorLemmas
-pub mod FrameLemmas
-pub mod VoteLemmas
-pub mod EndingLemmas
-pub mod SeenLemmas
-pub mod DecideLemmas
+mod DocumentLemmas
+mod TextLemmas
+mod RecordLemmas
+mod DigitLemmas
+mod JournalLemmas
+mod ProcessorLemmas
+mod FrameLemmas
+mod VoteLemmas
+mod EndingLemmas
+mod SeenLemmas
+mod DecideLemmas

@@ -1,3 +1,3 @@
-pub mod TokenLaws
-pub mod LexemeLaws
-pub mod GrammarLaws
+mod TokenLemmas
+mod LexemeLemmas
+mod GrammarLemmas

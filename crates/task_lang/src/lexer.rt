@@ -81,7 +81,7 @@ fn is_name_byte(b: u8) -> bool
 }
 
 // The token that is written so.
-#[tactic(auto, using(crate::proofs::LexemeLaws::token_of_broken))]
+#[tactic(auto, using(crate::proofs::LexemeLemmas::token_of_broken))]
 fn token_of(lexeme: &[u8]) -> Token
     ensures { result ≡ spec.token_of lexeme.now }
 {
@@ -115,7 +115,7 @@ fn number_or_word(text: &str) -> Token
 }
 
 // The number that a text of digits writes, if it is below 2^63.
-#[tactic(auto, using(crate::proofs::LexemeLaws::number_of_parsed))]
+#[tactic(auto, using(crate::proofs::LexemeLemmas::number_of_parsed))]
 fn number_of(text: &str) -> Option<i64>
     ensures { result ≡ spec.number_of text.now }
 {

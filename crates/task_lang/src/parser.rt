@@ -81,7 +81,7 @@ fn row_of(
 }
 
 // The tokens before a last semicolon.
-#[tactic(auto, using(crate::proofs::GrammarLaws::before_semicolon_ended, crate::proofs::GrammarLaws::before_semicolon_open))]
+#[tactic(auto, using(crate::proofs::GrammarLemmas::before_semicolon_ended, crate::proofs::GrammarLemmas::before_semicolon_open))]
 fn before_semicolon(tokens: &[Token]) -> Option<&[Token]>
     ensures { option_map (λ front. front.now) result ≡ spec.before_semicolon tokens.now }
 {

@@ -1,7 +1,7 @@
 use Rattle.std.proofs.Common.{arith}
 use Rattle.std.proofs.lemmas.Grind.{common_steps}
 use Rattle.task_lang.specs.Tokens.{tokens_of}
-use Rattle.task_lang.proofs.TokenLaws.{tokens_after_blank, tokens_after_token, tokens_at_end}
+use Rattle.task_lang.proofs.TokenLemmas.{tokens_after_blank, tokens_after_token, tokens_at_end}
 use Rattle.task_lang.proofs.lexer.tokens.Goals as goal
 
 pub loop-first-preserved-then-is_blank : goal.loop-first-preserved-then-is_blank
