@@ -10,7 +10,7 @@ use Rattle.rcp_top.specs.declared.answer.Answer.TheVariants as answer
 use Rattle.rcp_top.specs.declared.unread.Unread.{Unread}
 use Rattle.rcp_top.specs.declared.unread.Unread.TheVariants.{Unbuilt}
 use Rattle.rcp_top.specs.Ending.{EndsOverSeen, IsSeen, HasCause}
-use Rattle.rcp_top.specs.Outcome.{Outcome, ideal_words, of_words, outcome_of, outcome_of_answer, of_frames, of_journal, of_plan, of_files, unreadable, usage, journal_refused, task_refused}
+use Rattle.rcp_top.specs.Outcome.{Outcome, ideal_words, file_words, files_named, of_words, outcome_of, outcome_of_answer, of_frames, of_journal, of_plan, of_files, unreadable, usage, journal_refused, task_refused}
 use Rattle.rcp_top.specs.Seen.{IsOfJournal, IsOfPlan, IsOfFiles}
 use Rattle.rcp_top.specs.SmallFile.{small_file, text_of, document_of, document_parts}
 use Rattle.rcp_top.specs.SmallJournal.{small_journal, frames_of_records, records_of}
@@ -109,19 +109,6 @@ file_was_unreadable (Some files) file journal failed (inr missing) =
     record { file_seen = None; file_is_seen = inl (sym missing); journal_seen = files journal; journal_is_seen = inl refl; is_due = refl }
 
 -- words that name the run of the single processor
-words_are : (words : List (List ℕ)) (file journal : List ℕ) → ideal_words words ≡ Some (file, journal) → (word : List ℕ) × (words ≡ word ∷ file ∷ journal ∷ [])
-words_are [] file journal is = cc is
-words_are (a ∷ []) file journal is = cc is
-words_are (a ∷ b ∷ []) file journal is = cc is
-words_are (a ∷ b ∷ c ∷ []) file journal is = by_test (bytes_eq a (codes "ideal")) is
-  where
-    by_test : (t : Bool) → cond {A = Option (List ℕ × List ℕ)} t (Some (b, c)) None ≡ Some (file, journal) → (word : List ℕ) × (a ∷ b ∷ c ∷ [] ≡ word ∷ file ∷ journal ∷ [])
-    by_test true is =
-        let same : ◌≡◌ {A = List ℕ × List ℕ} (b, c) (file, journal) = cc is in
-        (a, ap (λ (p : List ℕ × List ℕ). a ∷ p.0 ∷ p.1 ∷ []) same)
-    by_test false is = cc is
-words_are (a ∷ b ∷ c ∷ d ∷ words) file journal is = cc is
-
 pub words_were_ideal : (told : Option Files) (words : List (List ℕ)) (file journal : List ℕ) (failed : Type 0) (result : Result Answer Memory)
     → ideal_words words ≡ Some (file, journal)
     → IfOk result (λ answer. IfTold told (λ files. IsOfFiles file journal (files file) (files journal) failed (outcome_of_answer answer)))
@@ -132,22 +119,12 @@ words_were_ideal (Some files) words file journal failed (Ok answer) is of =
     let due = seen_files file journal files failed (outcome_of_answer answer) of in
     record { seen = due.seen; are_seen = due.are_seen; ended = due.is_due ∙ ap (λ form. of_words form due.seen) (sym is) }
 
-cause_of_more : (told : Option Files) (before now : ℕ) (word : List ℕ) (words : List (List ℕ)) (answer : Answer)
-    → HasCause told before now words answer → HasCause told before now (word ∷ words) answer
-cause_of_more told before now word words (answer.Unreadable name) (inl rises) = inl rises
-cause_of_more told before now word words (answer.Unreadable name) (inr missing) = inr (inr missing)
-cause_of_more told before now word words answer.Usage cause = tt
-cause_of_more told before now word words answer.TaskRefused cause = tt
-cause_of_more told before now word words answer.JournalRefused cause = tt
-cause_of_more told before now word words (answer.Ideal plan frames) cause = tt
-
 pub cause_of_words : (told : Option Files) (before now : ℕ) (words : List (List ℕ)) (file journal : List ℕ) (result : Result Answer Memory)
-    → ideal_words words ≡ Some (file, journal) → IfOk result (HasCause told before now (file ∷ journal ∷ [])) → IfOk result (HasCause told before now words)
-cause_of_words told before now words file journal (Err e) is cause = tt
-cause_of_words told before now words file journal (Ok answer) is cause =
-    let named = words_are words file journal is in
-    let P : List (List ℕ) → Type 0 = λ names. HasCause told before now names answer in
-    subst P (sym named.1) (cause_of_more told before now named.0 (file ∷ journal ∷ []) answer cause)
+    → ideal_words words ≡ Some (file, journal) → IfOk result (HasCause told before now (file ∷ journal ∷ []))
+    → IfOk result (HasCause told before now (files_named words))
+cause_of_words told before now words file journal result is cause =
+    let P : Option (List ℕ × List ℕ) → Type 0 = λ form. IfOk result (HasCause told before now (file_words form)) in
+    subst P (sym is) cause
 
 -- words that are no form
 pub words_were_none : (told : Option Files) (words : List (List ℕ)) (failed : Type 0) → ideal_words words ≡ None

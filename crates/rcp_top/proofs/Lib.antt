@@ -9,3 +9,4 @@ mod VoteLemmas
 mod EndingLemmas
 mod SeenLemmas
 mod DecideLemmas
+mod FinishLemmas

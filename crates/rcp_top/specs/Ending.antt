@@ -32,13 +32,13 @@ abbrev pub IsMissingOne : Option Files → List (List ℕ) → Type 0
 IsMissingOne told [] = ⊥
 IsMissingOne told (name ∷ names) = IsMissing told name ⊎ IsMissingOne told names
 
--- a file under one of these words was not read only where the folder failed, or tells that it has none
+-- one of the files of these names was not read only where the folder failed, or tells that it has none
 abbrev pub HasCause : Option Files → ℕ → ℕ → List (List ℕ) → Answer → Type 0
-HasCause told before now words (answer.Unreadable word) = Rises before now ⊎ IsMissingOne told words
-HasCause told before now words answer.Usage = ⊤
-HasCause told before now words answer.TaskRefused = ⊤
-HasCause told before now words answer.JournalRefused = ⊤
-HasCause told before now words (answer.Ideal plan frames) = ⊤
+HasCause told before now names (answer.Unreadable word) = Rises before now ⊎ IsMissingOne told names
+HasCause told before now names answer.Usage = ⊤
+HasCause told before now names answer.TaskRefused = ⊤
+HasCause told before now names answer.JournalRefused = ⊤
+HasCause told before now names (answer.Ideal plan frames) = ⊤
 
 -- the status where a text was written, or not
 abbrev pub status_after : {T : Type 0} → Status → Result T WriteError → Status

@@ -84,6 +84,14 @@ abbrev pub ideal_words : List (List ℕ) → Option (List ℕ × List ℕ)
 ideal_words (word ∷ file ∷ journal ∷ []) = if bytes_eq word (codes "ideal") then Some (file, journal) else None
 ideal_words _ = None
 
+-- the words that name files
+abbrev pub file_words : Option (List ℕ × List ℕ) → List (List ℕ)
+file_words (Some (file, journal)) = file ∷ journal ∷ []
+file_words None = []
+
+abbrev pub files_named : List (List ℕ) → List (List ℕ)
+files_named words = file_words (ideal_words words)
+
 -- by the form of the words
 abbrev pub of_words : Option (List ℕ × List ℕ) → Files → Outcome
 of_words (Some (file, journal)) files = of_files file journal (files file) (files journal)

@@ -24,7 +24,8 @@ pub fn decide<'a, F: Folder>(
 ) -> Result<Answer<'a>, Memory>
     ensures due { IfOk result (λ answer. IfTold (F.files folder.old) (λ files.
         EndsOverSeen (map (λ word. string_bytes word) words.now) files (Rises (F.faults folder.old) (F.faults folder.new)) (λ due. spec.outcome_of_answer answer ≡ due))) }
-    ensures cause { IfOk result (HasCause (F.files folder.old) (F.faults folder.old) (F.faults folder.new) (map (λ word. string_bytes word) words.now)) }
+    ensures cause { IfOk result (HasCause (F.files folder.old) (F.faults folder.old) (F.faults folder.new)
+        (spec.files_named (map (λ word. string_bytes word) words.now))) }
     ensures files { F.files folder.new ≡ F.files folder.old }
 {
     match ideal_words(words) {

@@ -6,6 +6,7 @@ mod answer;
 mod decide;
 mod document;
 mod ideal;
+pub mod laws;
 mod lines;
 mod processor;
 mod records;

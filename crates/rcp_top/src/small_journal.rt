@@ -23,18 +23,17 @@ pub fn small_journal(alloc: Global, bytes: &[u8]) -> Result<u32, Unread>
     frames_of_records(records.as_slice())
 }
 
+#[tactic(auto, using(crate::proofs::JournalLemmas::not_two_records, crate::proofs::JournalLemmas::as_many_fields))]
 fn frames_of_records(records: &[ByteRecord]) -> Result<u32, Unread>
     ensures { Gives (λ frames. frames) result (spec.frames_of_records (map fields_of records.now)) }
 {
-    match records {
-        [header, row] => {
-            if is_header(header) {
-                frames_of_end(row)
-            } else {
-                Err(Unread::Unbuilt)
-            }
-        }
-        _ => Err(Unread::Unbuilt),
+    let [header, row] = records else {
+        return Err(Unread::Unbuilt);
+    };
+    if is_header(header) {
+        frames_of_end(row)
+    } else {
+        Err(Unread::Unbuilt)
     }
 }
 

@@ -4,32 +4,19 @@ mod plans;
 
 use crate::ideal::write_ideal;
 use crate::{Status, rcp};
-use plans::{motor, pitch};
+use plans::plan_of;
 use rcp_base::{Sink, SureFolder, SureSink, WriteError};
 use std::alloc::{AllocError, Global};
+use std::process::Abort;
 use std::test::Fail;
 
-const COUNTER: &str = "replicas = 3
-
-[timing]
-compute = 30000
-
-[[cell]]
-name = \"n\"
-initial = 0
-
-[[task]]
-name = \"count\"
-body = \"n := n + 1;\"
-
-[[slot]]
-tasks = [\"count\"]
-votes = [\"n\"]
-
-[[actuator]]
-name = \"out\"
-value = \"n\"
-";
+const COUNTER: &str = r#"replicas = 3
+timing = { compute = 30000 }
+cell = [{ name = "n", initial = 0 }]
+task = [{ name = "count", body = "n := n + 1;" }]
+slot = [{ tasks = ["count"], votes = ["n"] }]
+actuator = [{ name = "out", value = "n" }]
+"#;
 
 const TWO_FRAMES: &str = "frame,kind,a,b,c,d\n2,end,,,,\n";
 
@@ -42,151 +29,195 @@ ideal slot 0 cells 2
 end 2
 ";
 
-const USAGE: &str = "usage: ideal FILE JOURNAL | check FILE | thin FILE | replay FILE JOURNAL [rs|ds|da] | events FILE JOURNAL first|last | summary FILE JOURNAL | gen FILE NUMBER FRAMES\n";
+const USAGE: &str =
+    "usage: ideal FILE JOURNAL | check FILE | thin FILE | replay FILE JOURNAL [rs|ds|da] | events FILE JOURNAL first|last | summary FILE JOURNAL | gen FILE NUMBER FRAMES\n";
 
 const TASK_REFUSED: &str = "task file refused: unbuilt\n";
 
 const JOURNAL_REFUSED: &str = "journal refused: unbuilt\n";
 
-fn words_of(alloc: Global, words: &[&str]) -> Result<Vec<String>, AllocError> {
+// Parts of the counter's file, and what may stand in their place.
+const ACCEPTED_PARTS: &str = r#"{ compute = 30000 } => 3.5
+replicas = 3 => replicas = "many"
+initial = 0 => initial = -9223372036854775808
+["n"] => ["m", "m"]
+["n"] => []
+name = "n", initial = 0 => initial = 0, name = "n"
+n := n + 1; => n:=n+0001;
+"#;
+
+// Parts of the counter's file, and what may not stand in their place.
+const REFUSED_PARTS: &str = r#"replicas = 3 => speed = 1
+cell = [{ name = "n", initial = 0 }] => cell = { name = "n", initial = 0 }
+initial = 0 } => initial = 0 }, { name = "m", initial = 0 }
+initial = 0 => initial = "0"
+initial = 0 => initial = 9223372036854775808
+initial = 0 => initial = 0, final = 1
+, initial = 0 => 
+name = "n" => name = "N"
+name = "n" => name = "let"
+name = "n" => name = "a23456789012345678901234567890123"
+n := n + 1; => n := n * 1;
+n := n + 1; => n := (n + 1);
+n := n + 1; => m := n + 1;
+n := n + 1; => n := n + 1
+["count"] => ["count", "count"]
+["count"] => ["other"]
+["n"] => [1]
+["n"] => "n"
+value = "n" => value = "m"
+value = "n" => value = ""
+"#;
+
+// Journals, with a slash for each line feed.
+const ACCEPTED_JOURNALS: &str = r#"frame,kind,a,b,c,d/1,end,,,,
+frame,kind,a,b,c,d//001,"end",,,,/
+"frame",kind,a,b,c,d/1,end,"",,,/
+"#;
+
+const REFUSED_JOURNALS: &str = r#"frame,kind,a,b,c,d/
+frame,kind,a,b,c/1,end,,,,/
+1,end,,,,/
+frame,kind,a,b,c,d/0,end,,,,/
+frame,kind,a,b,c,d/-1,end,,,,/
+frame,kind,a,b,c,d/+1,end,,,,/
+frame,kind,a,b,c,d/1 ,end,,,,/
+frame,kind,a,b,c,d/1000001,end,,,,/
+frame,kind,a,b,c,d/4294967297,end,,,,/
+frame,kind,a,b,c,d/,end,,,,/
+frame,kind,a,b,c,d/1,end,,,/
+frame,kind,a,b,c,d/1,end,,,,0/
+frame,kind,a,b,c,d/1,end,,,,/2,end,,,,/
+frame,kind,a,b,c,d/0,down,1,,,/1,end,,,,/
+"#;
+
+fn words_of(alloc: Global, line: &str) -> Result<Vec<String>, AllocError> {
     let mut list = Vec::new(alloc);
-    for word in words {
+    for word in line.split_whitespace() {
         list.push(String::from_str(alloc, word)?)?;
     }
     Ok(list)
 }
 
-// What `ideal T J` answers and writes over these two files.
-fn ideal_of(alloc: Global, file: &[u8], journal: &[u8]) -> Result<(Status, SureSink), Fail> {
+// Files under T and J, and one under B that is no TOML.
+fn folder_of(alloc: Global, file: &str, journal: &str) -> Result<SureFolder, Fail> {
     let mut folder = SureFolder::new(alloc);
-    folder.put("T", file)?;
-    folder.put("J", journal)?;
-    let words = words_of(alloc, &["ideal", "T", "J"])?;
+    folder.put("T", file.as_bytes())?;
+    folder.put("J", journal.as_bytes())?;
+    folder.put("B", b"no = toml = at all")?;
+    Ok(folder)
+}
+
+// The words `line` over these two files answer this status and write this text.
+fn check(
+    rt: &impl Abort,
+    alloc: Global,
+    line: &str,
+    file: &str,
+    journal: &str,
+    due: (Status, &str),
+) -> Result<(), Fail> {
+    let mut folder = folder_of(alloc, file, journal)?;
+    let words = words_of(alloc, line)?;
     let mut out = SureSink::new(alloc);
     let status = rcp(alloc, words.as_slice(), &mut folder, &mut out);
-    Ok((status, out))
+    assert_eq!(rt; status, due.0, "{line} of {file} and {journal}");
+    assert_eq!(rt;
+        out.bytes(),
+        due.1.as_bytes(),
+        "{line} of {file} and {journal}"
+    );
+    Ok(())
 }
 
 #[test]
 fn the_counter_counts(rt: HostRuntime) -> Result<(), Fail> {
-    let (status, out) = ideal_of(rt.alloc(), COUNTER.as_bytes(), TWO_FRAMES.as_bytes())?;
-    assert_eq!(rt; status, Status::Done);
-    assert_eq!(rt; out.bytes(), COUNTED.as_bytes());
+    let due = (Status::Done, COUNTED);
+    check(&rt, rt.alloc(), "ideal T J", COUNTER, TWO_FRAMES, due)
+}
+
+#[test]
+fn words_that_are_no_form_are_refused(rt: HostRuntime) -> Result<(), Fail> {
+    for line in "\nideal\nideal T\nideal T J J\nIDEAL T J\ncheck T\nT J ideal".split('\n') {
+        let due = (Status::Usage, USAGE);
+        check(&rt, rt.alloc(), line, COUNTER, TWO_FRAMES, due)?;
+    }
     Ok(())
 }
 
 #[test]
-fn words_and_missing_files_are_refused(rt: HostRuntime) -> Result<(), Fail> {
-    let alloc = rt.alloc();
-    let mut folder = SureFolder::new(alloc);
-    folder.put("T", COUNTER.as_bytes())?;
-    folder.put("bad", b"no = toml = at all")?;
-    folder.put("J", TWO_FRAMES.as_bytes())?;
-    let cases: [(&[&str], Status, &str); 9] = [
-        (&[], Status::Usage, USAGE),
-        (&["ideal"], Status::Usage, USAGE),
-        (&["ideal", "T"], Status::Usage, USAGE),
-        (&["ideal", "T", "J", "J"], Status::Usage, USAGE),
-        (&["IDEAL", "T", "J"], Status::Usage, USAGE),
-        (&["check", "T"], Status::Usage, USAGE),
-        (&["ideal", "X", "Y"], Status::ReadFault, "unreadable: X\n"),
-        (&["ideal", "bad", "Y"], Status::TaskRefused, TASK_REFUSED),
-        (&["ideal", "T", "Y"], Status::ReadFault, "unreadable: Y\n"),
-    ];
-    for (words, expected, text) in cases {
-        let words = words_of(alloc, words)?;
-        let mut out = SureSink::new(alloc);
-        let status = rcp(alloc, words.as_slice(), &mut folder, &mut out);
-        assert_eq!(rt; status, expected, "{text}");
-        assert_eq!(rt; out.bytes(), text.as_bytes(), "{text}");
+fn files_that_are_missing_are_unreadable(rt: HostRuntime) -> Result<(), Fail> {
+    for (line, status, text) in [
+        ("ideal X Y", Status::ReadFault, "unreadable: X\n"),
+        ("ideal B Y", Status::TaskRefused, TASK_REFUSED),
+        ("ideal T Y", Status::ReadFault, "unreadable: Y\n"),
+        ("ideal T T", Status::JournalRefused, JOURNAL_REFUSED),
+    ] {
+        check(&rt, rt.alloc(), line, COUNTER, TWO_FRAMES, (status, text))?;
     }
     Ok(())
 }
 
-// The counter's file with one part in place of another.
-fn counter_with(alloc: Global, old: &str, new: &str) -> Result<String, AllocError> {
-    let mut text = String::new(alloc);
-    let mut left = COUNTER;
-    if let Some((before, behind)) = COUNTER.split_once(old) {
-        text.push_str(before)?;
-        text.push_str(new)?;
-        left = behind;
-    }
-    text.push_str(left)?;
+// The counter's file with one part in place of another, by a line `OLD => NEW`.
+fn changed(alloc: Global, line: &str) -> Result<String, Fail> {
+    let (old, new) = line.split_once(" => ").ok_or("no change")?;
+    let (before, behind) = COUNTER.split_once(old).ok_or("no such part")?;
+    let mut text = String::from_str(alloc, before)?;
+    text.push_str(new)?;
+    text.push_str(behind)?;
     Ok(text)
 }
 
 #[test]
 fn other_task_files_are_refused(rt: HostRuntime) -> Result<(), Fail> {
-    let alloc = rt.alloc();
-    for (old, new) in [
-        ("[timing]\ncompute = 30000\n", "timing = 3.5\n"),
-        ("replicas = 3\n", ""),
-        ("initial = 0", "initial = -9223372036854775808"),
-        ("[\"n\"]", "[\"m\", \"m\"]"),
-        ("[\"n\"]", "[]"),
-        ("name = \"n\"\ninitial = 0", "initial = 0\nname = \"n\""),
-    ] {
-        let file = counter_with(alloc, old, new)?;
-        let (status, _out) = ideal_of(alloc, file.as_bytes(), TWO_FRAMES.as_bytes())?;
-        assert_eq!(rt; status, Status::Done, "{new}");
-    }
-    for (old, new) in [
-        ("replicas = 3", "speed = 1"),
-        ("[[cell]]", "[cell]"),
-        ("[[task]]", "[[cell]]\nname = \"m\"\ninitial = 1\n\n[[task]]"),
-        ("initial = 0", "initial = \"0\""),
-        ("initial = 0", "initial = 9223372036854775808"),
-        ("initial = 0", "initial = 0\nfinal = 1"),
-        ("name = \"n\"", "name = \"N\""),
-        ("name = \"n\"", "name = \"let\""),
-        ("name = \"n\"", "name = \"a23456789012345678901234567890123\""),
-        ("n := n + 1;", "n := n * 1;"),
-        ("n := n + 1;", "n := (n + 1);"),
-        ("n := n + 1;", "m := n + 1;"),
-        ("n := n + 1;", "n := n + 1"),
-        ("[\"count\"]", "[\"count\", \"count\"]"),
-        ("[\"count\"]", "[\"other\"]"),
-        ("[\"n\"]", "[1]"),
-        ("[\"n\"]", "\"n\""),
-        ("value = \"n\"", "value = \"m\""),
-        ("value = \"n\"", "value = \"\""),
-    ] {
-        let file = counter_with(alloc, old, new)?;
-        let (status, out) = ideal_of(alloc, file.as_bytes(), TWO_FRAMES.as_bytes())?;
-        assert_eq!(rt; status, Status::TaskRefused, "{new}");
-        assert_eq!(rt; out.bytes(), TASK_REFUSED.as_bytes(), "{new}");
+    for line in REFUSED_PARTS.lines() {
+        let file = changed(rt.alloc(), line)?;
+        let due = (Status::TaskRefused, TASK_REFUSED);
+        check(&rt, rt.alloc(), "ideal T J", file.as_str(), TWO_FRAMES, due)?;
     }
     Ok(())
+}
+
+// What `ideal T J` answers over these two files.
+fn status_of(alloc: Global, file: &str, journal: &str) -> Result<Status, Fail> {
+    let mut folder = folder_of(alloc, file, journal)?;
+    let words = words_of(alloc, "ideal T J")?;
+    let mut out = SureSink::new(alloc);
+    Ok(rcp(alloc, words.as_slice(), &mut folder, &mut out))
+}
+
+#[test]
+fn the_smallest_task_files_are_accepted(rt: HostRuntime) -> Result<(), Fail> {
+    for line in ACCEPTED_PARTS.lines() {
+        let file = changed(rt.alloc(), line)?;
+        let status = status_of(rt.alloc(), file.as_str(), TWO_FRAMES)?;
+        assert_eq!(rt; status, Status::Done, "{line}");
+    }
+    Ok(())
+}
+
+// A journal with a line feed for each slash.
+fn journal_of(alloc: Global, line: &str) -> Result<String, AllocError> {
+    let mut text = String::new(alloc);
+    for part in line.split('/') {
+        text.push_str(part)?;
+        text.push_str("\n")?;
+    }
+    Ok(text)
 }
 
 #[test]
 fn journals_are_the_header_and_an_end(rt: HostRuntime) -> Result<(), Fail> {
     let alloc = rt.alloc();
-    let cases: [(&str, Status); 16] = [
-        ("frame,kind,a,b,c,d\n1,end,,,,", Status::Done),
-        ("\u{feff}frame,kind,a,b,c,d\r\n\r\n001,\"end\",,,,\r\n", Status::Done),
-        ("", Status::JournalRefused),
-        ("frame,kind,a,b,c,d\n", Status::JournalRefused),
-        ("frame,kind,a,b,c\n1,end,,,,\n", Status::JournalRefused),
-        ("1,end,,,,\n", Status::JournalRefused),
-        ("frame,kind,a,b,c,d\n0,end,,,,\n", Status::JournalRefused),
-        ("frame,kind,a,b,c,d\n-1,end,,,,\n", Status::JournalRefused),
-        ("frame,kind,a,b,c,d\n+1,end,,,,\n", Status::JournalRefused),
-        ("frame,kind,a,b,c,d\n1000001,end,,,,\n", Status::JournalRefused),
-        ("frame,kind,a,b,c,d\n4294967297,end,,,,\n", Status::JournalRefused),
-        ("frame,kind,a,b,c,d\n,end,,,,\n", Status::JournalRefused),
-        ("frame,kind,a,b,c,d\n1,end,,,\n", Status::JournalRefused),
-        ("frame,kind,a,b,c,d\n1,end,,,,0\n", Status::JournalRefused),
-        ("frame,kind,a,b,c,d\n1,end,,,,\n2,end,,,,\n", Status::JournalRefused),
-        ("frame,kind,a,b,c,d\n0,down,1,,,\n1,end,,,,\n", Status::JournalRefused),
-    ];
-    for (journal, expected) in cases {
-        let (status, out) = ideal_of(alloc, COUNTER.as_bytes(), journal.as_bytes())?;
-        assert_eq!(rt; status, expected, "{journal}");
-        if expected == Status::JournalRefused {
-            assert_eq!(rt; out.bytes(), JOURNAL_REFUSED.as_bytes(), "{journal}");
-        }
+    for line in ACCEPTED_JOURNALS.lines() {
+        let journal = journal_of(alloc, line)?;
+        let status = status_of(alloc, COUNTER, journal.as_str())?;
+        assert_eq!(rt; status, Status::Done, "{line}");
+    }
+    for line in REFUSED_JOURNALS.lines() {
+        let journal = journal_of(alloc, line)?;
+        let due = (Status::JournalRefused, JOURNAL_REFUSED);
+        check(&rt, alloc, "ideal T J", COUNTER, journal.as_str(), due)?;
     }
     Ok(())
 }
@@ -194,25 +225,21 @@ fn journals_are_the_header_and_an_end(rt: HostRuntime) -> Result<(), Fail> {
 #[test]
 fn sums_stop_at_the_ends_of_64_bits(rt: HostRuntime) -> Result<(), Fail> {
     let alloc = rt.alloc();
-    for (body, text) in [
+    for (line, value) in [
+        ("n + 1 => 9223372036854775807 + 1", "9223372036854775807"),
         (
-            "n := 9223372036854775807 + 1;",
-            "frame 0\nvote out 9223372036854775807\nideal slot 0 cells 9223372036854775807\nend 1\n",
+            "n + 1 => 0 - 9223372036854775807 - 2",
+            "-9223372036854775808",
         ),
-        (
-            "n := 0 - 9223372036854775807 - 2;",
-            "frame 0\nvote out -9223372036854775808\nideal slot 0 cells -9223372036854775808\nend 1\n",
-        ),
-        (
-            "n := 7 - 4 - 2;",
-            "frame 0\nvote out 1\nideal slot 0 cells 1\nend 1\n",
-        ),
+        ("n + 1 => 7 - 4 - 2", "1"),
     ] {
-        let file = counter_with(alloc, "n := n + 1;", body)?;
-        let journal = b"frame,kind,a,b,c,d\n1,end,,,,\n";
-        let (status, out) = ideal_of(alloc, file.as_bytes(), journal)?;
-        assert_eq!(rt; status, Status::Done, "{body}");
-        assert_eq!(rt; out.bytes(), text.as_bytes(), "{body}");
+        let file = changed(alloc, line)?;
+        let text = format!(in alloc;
+            "frame 0\nvote out {value}\nideal slot 0 cells {value}\nend 1\n"
+        )?;
+        let journal = "frame,kind,a,b,c,d\n1,end,,,,\n";
+        let due = (Status::Done, text.as_str());
+        check(&rt, alloc, "ideal T J", file.as_str(), journal, due)?;
     }
     Ok(())
 }
@@ -250,28 +277,18 @@ impl Sink for Pieces {
 #[test]
 fn each_line_is_one_write(rt: HostRuntime) -> Result<(), Fail> {
     let alloc = rt.alloc();
-    let mut folder = SureFolder::new(alloc);
-    folder.put("T", COUNTER.as_bytes())?;
-    folder.put("J", TWO_FRAMES.as_bytes())?;
-    let words = words_of(alloc, &["ideal", "T", "J"])?;
+    let mut folder = folder_of(alloc, COUNTER, TWO_FRAMES)?;
+    let words = words_of(alloc, "ideal T J")?;
     let mut out = Pieces {
         alloc,
         pieces: Vec::new(alloc),
     };
     let status = rcp(alloc, words.as_slice(), &mut folder, &mut out);
     assert_eq!(rt; status, Status::Done);
-    let lines = [
-        "frame 0\n",
-        "vote out 1\n",
-        "ideal slot 0 cells 1\n",
-        "frame 1\n",
-        "vote out 2\n",
-        "ideal slot 0 cells 2\n",
-        "end 2\n",
-    ];
-    assert_eq!(rt; out.pieces.len(), lines.len());
-    for (piece, line) in out.pieces.iter().zip(lines.iter()) {
-        assert_eq!(rt; piece.as_slice(), line.as_bytes());
+    assert_eq!(rt; out.pieces.len(), COUNTED.lines().count());
+    for (piece, line) in out.pieces.iter().zip(COUNTED.lines()) {
+        let text = format!(in alloc; "{line}\n")?;
+        assert_eq!(rt; piece.as_slice(), text.as_bytes());
     }
     Ok(())
 }
@@ -279,7 +296,18 @@ fn each_line_is_one_write(rt: HostRuntime) -> Result<(), Fail> {
 #[test]
 fn the_motor_runs_as_worked(rt: HostRuntime) -> Result<(), Fail> {
     let alloc = rt.alloc();
-    let plan = motor(alloc, 10)?;
+    let plan = plan_of(
+        alloc,
+        &[("cmd", 10)],
+        &[("pos", 0), ("err", 0), ("sum", 0)],
+        &[
+            ("sense", "", 1, "s0 c0 -"),
+            ("integrate", "", 2, "c2 c1 + 100 neg 100 clamp"),
+            ("move", "", 0, "c0 c2 2 / +"),
+        ],
+        &[&[0, 1], &[2]],
+        ("motor", 2),
+    )?;
     let mut out = SureSink::new(alloc);
     assert!(rt; write_ideal(alloc, &plan, 4, &mut out).is_ok());
     let expected = "frame 0
@@ -303,17 +331,37 @@ end 4
 #[test]
 fn the_pitch_control_runs_as_worked(rt: HostRuntime) -> Result<(), Fail> {
     let alloc = rt.alloc();
-    let plan = pitch(alloc, 8, 100)?;
+    let plan = plan_of(
+        alloc,
+        &[("rate", 8), ("stick", 100)],
+        &[("q", 0), ("ref", 0), ("trim", 0), ("mode", 0), ("out", 0)],
+        &[
+            ("filter", "s0 c0 -", 0, "c0 l0 4 / +"),
+            ("shape", "", 1, "s1 3 * 900 neg 900 clamp"),
+            ("law", "", 4, "c1 c0 - 2 * c2 + 3000 neg 3000 clamp"),
+            ("moder", "", 3, "s1 abs 5 < 1 0 if"),
+            (
+                "trimmer",
+                "",
+                2,
+                "c3 1 == c2 c1 c0 - 8 / + 500 neg 500 clamp 0 if",
+            ),
+        ],
+        &[&[0, 1], &[0, 2], &[0, 3], &[0, 4]],
+        ("elevator", 4),
+    )?;
     let mut out = SureSink::new(alloc);
     assert!(rt; write_ideal(alloc, &plan, 4, &mut out).is_ok());
     let text = str::from_utf8(out.bytes()).map_err(|_| "no text")?;
-    for (line, expected) in text.lines().filter(|line| line.starts_with("vote ")).zip([
-        "vote elevator 0",
-        "vote elevator 594",
-        "vote elevator 594",
-        "vote elevator 594",
-    ]) {
-        assert_eq!(rt; line, expected);
+    let votes = text.lines().filter(|line| line.starts_with("vote "));
+    assert_eq!(rt; votes.count(), 4);
+    assert!(rt; text.starts_with("frame 0\nvote elevator 0\n"));
+    for line in text
+        .lines()
+        .filter(|line| line.starts_with("vote "))
+        .skip(1)
+    {
+        assert_eq!(rt; line, "vote elevator 594");
     }
     assert!(rt; text.ends_with("ideal slot 0 cells 5 300 0 0 594\nend 4\n"));
     Ok(())

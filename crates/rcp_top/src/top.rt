@@ -3,6 +3,7 @@
 ghost use Rattle.std.specs.Prelude.{◌≡◌, ◌⊎◌, map, string_bytes};
 ghost use Rattle.rcp_base.specs.Files.{IfTold, Rises};
 ghost use Rattle.rcp_top.specs.Ending.{Ends, EndsOverSeen, IsMissingOne};
+ghost use Rattle.rcp_top.specs.Outcome.{files_named};
 
 use crate::decide::decide;
 use crate::status::Status;
@@ -26,7 +27,8 @@ pub fn rcp<F: Folder, S: Sink>(
 
     // These hold for all folders and sinks, also for those that tell nothing.
     ensures read_fault { result ≡ Status.ReadFault
-        → Rises (F.faults folder.old) (F.faults folder.new) ⊎ IsMissingOne (F.files folder.old) (map (λ word. string_bytes word) words.now) }
+        → Rises (F.faults folder.old) (F.faults folder.new)
+        ⊎ IsMissingOne (F.files folder.old) (files_named (map (λ word. string_bytes word) words.now)) }
     ensures write_fault { result ≡ Status.WriteFault → Rises (S.faults out.old) (S.faults out.new) }
     ensures files { F.files folder.new ≡ F.files folder.old }
 {

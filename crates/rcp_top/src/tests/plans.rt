@@ -1,4 +1,4 @@
-//! The plans of the motor and of the pitch control, whose files are not read yet, as trees.
+//! Plans whose files are not read yet, from trees in postfix notation.
 //! This project's own.
 use rcp_base::{List, Name};
 use rcp_model::{
@@ -7,6 +7,9 @@ use rcp_model::{
 use sqlite_items::Boxed;
 use std::alloc::Global;
 use std::test::Fail;
+
+/// A task with at most one let, and one cell that it sets: the name, the let's tree, the cell and its tree.
+pub type TaskText<'a> = (&'a str, &'a str, u16, &'a str);
 
 const TIMING: Timing = Timing {
     compute: 30_000,
@@ -21,177 +24,149 @@ const TIMING: Timing = Timing {
     drift_limit_ppm: 500,
 };
 
-fn name(text: &str) -> Result<Name, Fail> {
+fn name_of(text: &str) -> Result<Name, Fail> {
     Ok(Name::read(text).ok_or("no name")?)
 }
 
-fn list<T: Drop, const N: usize>(alloc: Global, items: [T; N]) -> Result<List<T>, Fail> {
+// A number, or a letter with the number of a sensor, a cell or a let.
+fn leaf_of(word: &str) -> Result<Expr, Fail> {
+    if let Some(number) = word.strip_prefix('s') {
+        Ok(Expr::Sensor(number.parse::<u16>()?))
+    } else if let Some(number) = word.strip_prefix('c') {
+        Ok(Expr::Cell(number.parse::<u16>()?))
+    } else if let Some(number) = word.strip_prefix('l') {
+        Ok(Expr::Let(number.parse::<u16>()?))
+    } else {
+        Ok(Expr::Number(word.parse::<i64>()?))
+    }
+}
+
+fn operator_of(word: &str) -> Option<Op> {
+    match word {
+        "+" => Some(Op::Add),
+        "-" => Some(Op::Sub),
+        "*" => Some(Op::Mul),
+        "/" => Some(Op::Div),
+        "<" => Some(Op::Lt),
+        "==" => Some(Op::Eq),
+        _ => None,
+    }
+}
+
+fn popped(alloc: Global, stack: &mut Vec<Expr>) -> Result<Boxed<Expr>, Fail> {
+    let operand = stack.pop().ok_or("no operand")?;
+    Ok(Boxed::new(alloc, operand)?)
+}
+
+// What a word makes of the trees before it.
+fn applied(alloc: Global, word: &str, stack: &mut Vec<Expr>) -> Result<Expr, Fail> {
+    if let Some(op) = operator_of(word) {
+        let right = popped(alloc, stack)?;
+        let left = popped(alloc, stack)?;
+        return Ok(Expr::Two(op, left, right));
+    }
+    match word {
+        "neg" => Ok(Expr::Neg(popped(alloc, stack)?)),
+        "abs" => Ok(Expr::Abs(popped(alloc, stack)?)),
+        "clamp" | "if" => {
+            let third = popped(alloc, stack)?;
+            let second = popped(alloc, stack)?;
+            let first = popped(alloc, stack)?;
+            if word == "if" {
+                Ok(Expr::If(first, second, third))
+            } else {
+                Ok(Expr::Clamp(first, second, third))
+            }
+        }
+        _ => leaf_of(word),
+    }
+}
+
+fn tree_of(alloc: Global, text: &str) -> Result<Expr, Fail> {
+    let mut stack = Vec::new(alloc);
+    for word in text.split_whitespace() {
+        let tree = applied(alloc, word, &mut stack)?;
+        stack.push(tree)?;
+    }
+    Ok(stack.pop().ok_or("no tree")?)
+}
+
+fn variables_of(alloc: Global, rows: &[(&str, i64)]) -> Result<List<Variable>, Fail> {
     let mut list = List::new(alloc);
-    for item in items {
-        list.push(item)?;
+    for (text, initial) in rows {
+        list.push(Variable {
+            name: name_of(text)?,
+            initial: *initial,
+        })?;
     }
     Ok(list)
 }
 
-fn two(alloc: Global, op: Op, a: Expr, b: Expr) -> Result<Expr, Fail> {
-    Ok(Expr::Two(op, Boxed::new(alloc, a)?, Boxed::new(alloc, b)?))
-}
-
-// Within a bound on both sides of 0.
-fn clamp(alloc: Global, x: Expr, bound: i64) -> Result<Expr, Fail> {
-    let low = Expr::Neg(Boxed::new(alloc, Expr::Number(bound))?);
-    let high = Expr::Number(bound);
-    Ok(Expr::Clamp(
-        Boxed::new(alloc, x)?,
-        Boxed::new(alloc, low)?,
-        Boxed::new(alloc, high)?,
-    ))
-}
-
-fn choice(alloc: Global, test: Expr, a: Expr, b: Expr) -> Result<Expr, Fail> {
-    Ok(Expr::If(
-        Boxed::new(alloc, test)?,
-        Boxed::new(alloc, a)?,
-        Boxed::new(alloc, b)?,
-    ))
-}
-
-fn variable(text: &str, initial: i64) -> Result<Variable, Fail> {
-    Ok(Variable {
-        name: name(text)?,
-        initial,
-    })
-}
-
-// A task that sets one cell.
-fn task(alloc: Global, text: &str, cell: u16, value: Expr) -> Result<Task, Fail> {
+fn task_of(alloc: Global, row: &TaskText<'_>) -> Result<Task, Fail> {
+    let (text, let_value, cell, value) = *row;
+    let mut lets = List::new(alloc);
+    if !let_value.is_empty() {
+        lets.push(LetRow {
+            name: name_of("d")?,
+            value: tree_of(alloc, let_value)?,
+        })?;
+    }
+    let mut sets = List::new(alloc);
+    sets.push(SetRow {
+        cell,
+        value: tree_of(alloc, value)?,
+    })?;
     Ok(Task {
-        name: name(text)?,
-        lets: List::new(alloc),
-        sets: list(alloc, [SetRow { cell, value }])?,
+        name: name_of(text)?,
+        lets,
+        sets,
     })
 }
 
-fn slot<const N: usize>(alloc: Global, tasks: [u16; N]) -> Result<SlotRow, Fail> {
-    Ok(SlotRow {
-        tasks: list(alloc, tasks)?,
-        votes: List::new(alloc),
-    })
+fn tasks_of(alloc: Global, rows: &[TaskText<'_>]) -> Result<List<Task>, Fail> {
+    let mut list = List::new(alloc);
+    for row in rows {
+        list.push(task_of(alloc, row)?)?;
+    }
+    Ok(list)
 }
 
-/// `err := cmd - pos;`, `sum := clamp(sum + err, -100, 100);` and `pos := pos + sum / 2;` over the cells pos, err, sum.
-pub fn motor(alloc: Global, cmd: i64) -> Result<PlanParts, Fail> {
-    let err = two(alloc, Op::Sub, Expr::Sensor(0), Expr::Cell(0))?;
-    let grown = two(alloc, Op::Add, Expr::Cell(2), Expr::Cell(1))?;
-    let sum = clamp(alloc, grown, 100)?;
-    let half = two(alloc, Op::Div, Expr::Cell(2), Expr::Number(2))?;
-    let pos = two(alloc, Op::Add, Expr::Cell(0), half)?;
-    let cells = [
-        variable("pos", 0)?,
-        variable("err", 0)?,
-        variable("sum", 0)?,
-    ];
-    let tasks = [
-        task(alloc, "sense", 1, err)?,
-        task(alloc, "integrate", 2, sum)?,
-        task(alloc, "move", 0, pos)?,
-    ];
-    let actuator = ActuatorRow {
-        name: name("motor")?,
-        value: Expr::Cell(2),
-    };
+fn slots_of(alloc: Global, rows: &[&[u16]]) -> Result<List<SlotRow>, Fail> {
+    let mut list = List::new(alloc);
+    for row in rows {
+        let mut tasks = List::new(alloc);
+        for task in *row {
+            tasks.push(*task)?;
+        }
+        list.push(SlotRow {
+            tasks,
+            votes: List::new(alloc),
+        })?;
+    }
+    Ok(list)
+}
+
+/// A plan with one actuator, by its name and its cell.
+pub fn plan_of(
+    alloc: Global,
+    sensors: &[(&str, i64)],
+    cells: &[(&str, i64)],
+    tasks: &[TaskText<'_>],
+    slots: &[&[u16]],
+    actuator: (&str, u16),
+) -> Result<PlanParts, Fail> {
+    let mut actuators = List::new(alloc);
+    actuators.push(ActuatorRow {
+        name: name_of(actuator.0)?,
+        value: Expr::Cell(actuator.1),
+    })?;
     Ok(PlanParts {
         replicas: 3,
         timing: TIMING,
-        sensors: list(alloc, [variable("cmd", cmd)?])?,
-        cells: list(alloc, cells)?,
-        tasks: list(alloc, tasks)?,
-        slots: list(alloc, [slot(alloc, [0, 1])?, slot(alloc, [2])?])?,
-        actuators: list(alloc, [actuator])?,
-    })
-}
-
-// `let d = rate - q; q := q + d / 4;`
-fn filter(alloc: Global) -> Result<Task, Fail> {
-    let difference = LetRow {
-        name: name("d")?,
-        value: two(alloc, Op::Sub, Expr::Sensor(0), Expr::Cell(0))?,
-    };
-    let quarter = two(alloc, Op::Div, Expr::Let(0), Expr::Number(4))?;
-    let row = SetRow {
-        cell: 0,
-        value: two(alloc, Op::Add, Expr::Cell(0), quarter)?,
-    };
-    Ok(Task {
-        name: name("filter")?,
-        lets: list(alloc, [difference])?,
-        sets: list(alloc, [row])?,
-    })
-}
-
-// `out := clamp((ref - q) * 2 + trim, -3000, 3000);`
-fn law(alloc: Global) -> Result<Task, Fail> {
-    let error = two(alloc, Op::Sub, Expr::Cell(1), Expr::Cell(0))?;
-    let doubled = two(alloc, Op::Mul, error, Expr::Number(2))?;
-    let trimmed = two(alloc, Op::Add, doubled, Expr::Cell(2))?;
-    let out = clamp(alloc, trimmed, 3000)?;
-    task(alloc, "law", 4, out)
-}
-
-// `mode := if(abs(stick) < 5, 1, 0);`
-fn moder(alloc: Global) -> Result<Task, Fail> {
-    let size = Expr::Abs(Boxed::new(alloc, Expr::Sensor(1))?);
-    let is_small = two(alloc, Op::Lt, size, Expr::Number(5))?;
-    let mode = choice(alloc, is_small, Expr::Number(1), Expr::Number(0))?;
-    task(alloc, "moder", 3, mode)
-}
-
-// `trim := if(mode == 1, clamp(trim + (ref - q) / 8, -500, 500), 0);`
-fn trimmer(alloc: Global) -> Result<Task, Fail> {
-    let is_on = two(alloc, Op::Eq, Expr::Cell(3), Expr::Number(1))?;
-    let error = two(alloc, Op::Sub, Expr::Cell(1), Expr::Cell(0))?;
-    let eighth = two(alloc, Op::Div, error, Expr::Number(8))?;
-    let grown = two(alloc, Op::Add, Expr::Cell(2), eighth)?;
-    let trim = clamp(alloc, grown, 500)?;
-    let chosen = choice(alloc, is_on, trim, Expr::Number(0))?;
-    task(alloc, "trimmer", 2, chosen)
-}
-
-/// A filter in each of four slots, and `ref := clamp(stick * 3, -900, 900);`, the law, the mode and the trim in one each.
-pub fn pitch(alloc: Global, rate: i64, stick: i64) -> Result<PlanParts, Fail> {
-    let tripled = two(alloc, Op::Mul, Expr::Sensor(1), Expr::Number(3))?;
-    let shape = clamp(alloc, tripled, 900)?;
-    let cells = [
-        variable("q", 0)?,
-        variable("ref", 0)?,
-        variable("trim", 0)?,
-        variable("mode", 0)?,
-        variable("out", 0)?,
-    ];
-    let tasks = [
-        filter(alloc)?,
-        task(alloc, "shape", 1, shape)?,
-        law(alloc)?,
-        moder(alloc)?,
-        trimmer(alloc)?,
-    ];
-    let slots = [
-        slot(alloc, [0, 1])?,
-        slot(alloc, [0, 2])?,
-        slot(alloc, [0, 3])?,
-        slot(alloc, [0, 4])?,
-    ];
-    let actuator = ActuatorRow {
-        name: name("elevator")?,
-        value: Expr::Cell(4),
-    };
-    Ok(PlanParts {
-        replicas: 4,
-        timing: TIMING,
-        sensors: list(alloc, [variable("rate", rate)?, variable("stick", stick)?])?,
-        cells: list(alloc, cells)?,
-        tasks: list(alloc, tasks)?,
-        slots: list(alloc, slots)?,
-        actuators: list(alloc, [actuator])?,
+        sensors: variables_of(alloc, sensors)?,
+        cells: variables_of(alloc, cells)?,
+        tasks: tasks_of(alloc, tasks)?,
+        slots: slots_of(alloc, slots)?,
+        actuators,
     })
 }

@@ -1,0 +1,5 @@
+use Rattle.rcp_top.proofs.FinishLemmas.{finished}
+use Rattle.rcp_top.proofs.laws.a_run_that_can_finish_does.Goals as goal
+
+pub returns : goal.returns
+returns c = finished
