@@ -1,7 +1,6 @@
 -- What is due behind each read, where the folder tells its files.
-use Rattle.std.proofs.Common.{◌≡◌, ◌⊎◌, ℕ, ◌+◌, ◌-◌, ◌^◌, ◌<◌, ◌≤◌, min, List, [], ◌∷◌, length, Bool, true, false, cond, nat_le, codes, Option, Some, None, Result, Ok, Err, IfOk, refl, inl, inr, sym, ap, ◌∙◌, subst, arith, option_and_then}
+use Rattle.std.proofs.Common.{◌≡◌, ◌⊎◌, ℕ, ◌<◌, ◌≤◌, List, [], ◌∷◌, length, cond, Option, Some, None, Result, Ok, Err, IfOk, refl, inl, inr, sym, ap, ◌∙◌, subst, arith}
 use Rattle.std.proofs.lemmas.Bool.{lt-leb}
-use Rattle.std.specs.Str.{bytes_eq}
 use Rattle.rcp_base.specs.declared.memory.Memory.{Memory}
 use Rattle.rcp_base.specs.Files.{Files, IfTold, IsLonger, IsMissing, Rises}
 use Rattle.rcp_model.specs.declared.plan.PlanParts.{PlanParts}
@@ -9,8 +8,8 @@ use Rattle.rcp_top.specs.declared.answer.Answer.{Answer}
 use Rattle.rcp_top.specs.declared.answer.Answer.TheVariants as answer
 use Rattle.rcp_top.specs.declared.unread.Unread.{Unread}
 use Rattle.rcp_top.specs.declared.unread.Unread.TheVariants.{Unbuilt}
-use Rattle.rcp_top.specs.Ending.{EndsOverSeen, IsSeen, HasCause}
-use Rattle.rcp_top.specs.Outcome.{Outcome, ideal_words, file_words, files_named, of_words, outcome_of, outcome_of_answer, of_frames, of_journal, of_plan, of_files, unreadable, usage, journal_refused, task_refused}
+use Rattle.rcp_top.specs.Ending.{EndsOverSeen, HasCause}
+use Rattle.rcp_top.specs.Outcome.{ideal_words, file_words, files_named, of_words, outcome_of_answer, of_frames, of_plan, unreadable, usage, journal_refused, task_refused}
 use Rattle.rcp_top.specs.Seen.{IsOfJournal, IsOfPlan, IsOfFiles}
 use Rattle.rcp_top.specs.SmallFile.{small_file, text_of, document_of, document_parts}
 use Rattle.rcp_top.specs.SmallJournal.{small_journal, frames_of_records, records_of}

@@ -1,15 +1,13 @@
 -- How a call ends, by what was written and what was seen.
-use Rattle.std.proofs.Common.{◌≡◌, ◌⊎◌, ℕ, ◌<◌, ◌≤◌, List, [], ◌∷◌, length, Bool, true, false, cond, nat_le, Option, Some, None, Result, Ok, Err, refl, inl, inr, sym, ap, ◌∙◌, subst}
-use Rattle.std.specs.Io.KnownBytes.{Appends}
-use Rattle.std.specs.Str.{bytes_eq}
+use Rattle.std.proofs.Common.{ℕ, List, Option, Some, None, Result, Ok, Err, refl, inl}
 use Rattle.rcp_base.specs.declared.sink.WriteError.{WriteError}
 use Rattle.rcp_base.specs.declared.sink.WriteError.TheVariants as write
-use Rattle.rcp_base.specs.Files.{Files, IfTold, IsLonger, Rises}
+use Rattle.rcp_base.specs.Files.{Files, IfTold}
 use Rattle.rcp_base.specs.Writing.{Writes}
 use Rattle.rcp_base.proofs.WritingLaws.{no_front}
 use Rattle.rcp_top.specs.declared.status.Status.{Status}
 use Rattle.rcp_top.specs.declared.status.Status.TheVariants as status
-use Rattle.rcp_top.specs.Ending.{Ends, EndsOverSeen, IsSeen, status_after}
+use Rattle.rcp_top.specs.Ending.{Ends, EndsOverSeen, status_after}
 use Rattle.rcp_top.specs.Outcome.{Outcome, outcome_of}
 
 -- the end of a call whose whole text was given to the sink

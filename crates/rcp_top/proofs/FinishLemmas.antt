@@ -4,7 +4,7 @@ use Rattle.std.specs.Io.KnownBytes.{Appends}
 use Rattle.rcp_base.specs.Files.{Files, Rises}
 use Rattle.rcp_top.specs.declared.status.Status.{Status}
 use Rattle.rcp_top.specs.declared.status.Status.TheVariants as status
-use Rattle.rcp_top.specs.Ending.{Ends, EndsOverSeen, IsSeen}
+use Rattle.rcp_top.specs.Ending.{Ends, IsSeen}
 use Rattle.rcp_top.specs.Laws.{NoFailedReadLeavesNoChoice, ARunThatCanFinishDoes}
 use Rattle.rcp_top.specs.Outcome.{Outcome, ideal_words, of_files, of_words, outcome_of}
 

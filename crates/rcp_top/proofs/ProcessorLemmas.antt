@@ -1,5 +1,5 @@
 -- What stands at a number that a plan doesn't have changes nothing.
-use Rattle.std.proofs.Common.{◌≡◌, ℕ, ℤ, pos, List, length, get_or}
+use Rattle.std.proofs.Common.{◌≡◌, ℤ, pos, List}
 use Rattle.rcp_base.proofs.TableLaws.{table_same}
 use Rattle.rcp_model.specs.Slot.{no_task}
 use Rattle.rcp_model.specs.Task.{cells_after_task}

@@ -1,20 +1,15 @@
 -- What is due over the files that were seen.
-use Rattle.std.proofs.Common.{◌≡◌, ◌⊎◌, ℕ, ◌+◌, ◌-◌, ◌^◌, ◌<◌, ◌≤◌, min, List, [], ◌∷◌, length, Bool, true, false, cond, nat_le, Option, Some, None, Result, Ok, Err, IfOk, refl, inl, inr, sym, ap, ◌∙◌, subst, arith}
-use Rattle.std.proofs.lemmas.Bool.{lt-leb}
+use Rattle.std.proofs.Common.{◌≡◌, ℕ, List, Bool, true, false, cond, Option, Some, None, Result, Ok, Err, refl, inl, inr, sym, ap, ◌∙◌, subst}
 use Rattle.std.proofs.lemmas.Slice.Eq.{bytes_eq-Decides}
 use Rattle.std.specs.Bool.{Decides}
 use Rattle.std.specs.Str.{bytes_eq}
-use Rattle.rcp_base.specs.declared.memory.Memory.{Memory}
-use Rattle.rcp_base.specs.Files.{Files, IfTold, IsLonger, IsMissing, Rises}
+use Rattle.rcp_base.specs.Files.{Files}
 use Rattle.rcp_model.specs.declared.plan.PlanParts.{PlanParts}
-use Rattle.rcp_top.specs.declared.answer.Answer.{Answer}
 use Rattle.rcp_top.specs.declared.unread.Unread.{Unread}
-use Rattle.rcp_top.specs.declared.unread.Unread.TheVariants.{Unbuilt}
-use Rattle.rcp_top.specs.Ending.{EndsOverSeen, IsSeen}
-use Rattle.rcp_top.specs.Outcome.{Outcome, outcome_of, outcome_of_answer, of_frames, of_journal, of_plan, of_files, unreadable}
-use Rattle.rcp_top.specs.Seen.{IsOfJournal, IsOfPlan, IsOfFiles}
+use Rattle.rcp_top.specs.Ending.{IsSeen}
+use Rattle.rcp_top.specs.Outcome.{Outcome, of_plan, of_files, unreadable}
+use Rattle.rcp_top.specs.Seen.{IsOfFiles}
 use Rattle.rcp_top.specs.SmallFile.{small_file}
-use Rattle.rcp_top.specs.SmallJournal.{small_journal}
 
 -- by whether two names are one
 by_names : {X : Type 0} (a b : List ℕ) → (bytes_eq a b ≡ true → a ≡ b → X) → (bytes_eq a b ≡ false → (a ≡ b → ⊥) → X) → X

@@ -1,5 +1,5 @@
 -- What a table of a document has at a key.
-use Rattle.std.specs.Prelude.{List, ℕ, ℤ, Bool, true, false, ◌&&◌, nat_le, suc, zero, Option, Some, None, Result, option_and_then, is_some}
+use Rattle.std.specs.Prelude.{List, ℕ, ℤ, Bool, true, false, ◌&&◌, nat_le, suc, Option, Some, None, Result, option_and_then, is_some}
 use Rattle.toml.specs.Data.{Data, Items, no_items, item, Members, no_members, member, get_member, as_str, as_integer, as_array, as_table}
 use Rattle.rcp_top.specs.declared.unread.Unread.{Unread}
 use Rattle.rcp_top.specs.Unread.{looked_up}

@@ -1,15 +1,15 @@
 -- How a call may end: as is due, or cut short by the sink or by want of memory.
-use Rattle.std.specs.Prelude.{◌≡◌, ◌⊎◌, ◌≤◌, ℕ, List, [], ◌∷◌, ⊤, Option, Some, None, Result, Ok, Err}
+use Rattle.std.specs.Prelude.{◌≡◌, ◌⊎◌, ℕ, List, [], ◌∷◌, ⊤, Option, None, Result, Ok, Err}
 use Rattle.std.specs.Io.KnownBytes.{Appends}
 use Rattle.rcp_base.specs.declared.sink.WriteError.{WriteError}
 use Rattle.rcp_base.specs.declared.sink.WriteError.TheVariants as write
-use Rattle.rcp_base.specs.Files.{Files, IfTold, IsMissing, Rises}
+use Rattle.rcp_base.specs.Files.{Files, IsMissing, Rises}
 use Rattle.rcp_base.specs.Writing.{AppendsFront}
 use Rattle.rcp_top.specs.declared.answer.Answer.{Answer}
 use Rattle.rcp_top.specs.declared.answer.Answer.TheVariants as answer
 use Rattle.rcp_top.specs.declared.status.Status.{Status}
 use Rattle.rcp_top.specs.declared.status.Status.TheVariants as status
-use Rattle.rcp_top.specs.Outcome.{Outcome, outcome_of, outcome_of_answer}
+use Rattle.rcp_top.specs.Outcome.{Outcome, outcome_of}
 
 -- a call whose outcome is due ends with this status, and leaves this behind what the sink had
 pub data Ends (due : Outcome) (ended : Status) (old new : Option (List ℕ)) (before now : ℕ) : Type 0 where

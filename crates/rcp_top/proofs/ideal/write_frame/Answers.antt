@@ -1,4 +1,4 @@
-use Rattle.std.proofs.Common.{◌≡◌, ℤ, ◌++◌}
+use Rattle.std.proofs.Common.{ℤ}
 use Rattle.std.proofs.lemmas.Result.{err_from_is_err_and}
 use Rattle.rcp_base.proofs.WritingLaws.{progress_start, progress_more, progress_stop, progress_last}
 use Rattle.rcp_model.specs.Slot.{actuator_value}

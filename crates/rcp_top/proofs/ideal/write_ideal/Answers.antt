@@ -1,10 +1,9 @@
-use Rattle.std.proofs.Common.{◌≡◌, sym, ◌∙◌}
+use Rattle.std.proofs.Common.{sym, ◌∙◌}
 use Rattle.std.proofs.lemmas.Result.{err_from_is_err_and}
 use Rattle.rcp_base.proofs.WritingLaws.{progress_start, progress_more, progress_stop, progress_last}
-use Rattle.rcp_model.specs.Slot.{slot_count, cells_after_slot}
-use Rattle.rcp_model.specs.Uniprocessor.{ideal_cells, initial_values}
+use Rattle.rcp_model.specs.Uniprocessor.{initial_values}
 use Rattle.rcp_top.specs.Lines.{end_line}
-use Rattle.rcp_top.proofs.FrameLemmas.{rest_of, next_frame, rest_at_start, rest_at, rest_at_end, frame_written, cells_behind, progress_as}
+use Rattle.rcp_top.proofs.FrameLemmas.{next_frame, rest_at_start, rest_at, rest_at_end, frame_written, cells_behind, progress_as}
 use Rattle.rcp_top.proofs.ideal.write_ideal.Goals as goal
 
 pub loop-t-init : goal.loop-t-init

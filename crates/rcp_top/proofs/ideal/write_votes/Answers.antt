@@ -1,4 +1,4 @@
-use Rattle.std.proofs.Common.{◌≡◌, ℤ}
+use Rattle.std.proofs.Common.{ℤ}
 use Rattle.std.proofs.lemmas.Result.{err_from_is_err_and}
 use Rattle.rcp_base.proofs.WritingLaws.{progress_more, progress_stop}
 use Rattle.rcp_model.specs.Slot.{actuator_value}

@@ -1,4 +1,4 @@
-use Rattle.std.proofs.Common.{◌≡◌, ◌∙◌, rules}
+use Rattle.std.proofs.Common.{◌∙◌}
 use Rattle.rcp_top.proofs.DigitLemmas.{digits_are_text, value_is_parsed}
 use Rattle.rcp_top.proofs.small_journal.value_of.Goals as goal
 

@@ -1,9 +1,5 @@
-use Rattle.std.proofs.Common.{◌≡◌, sym, subst}
-use Rattle.rcp_top.specs.declared.status.Status.{Status}
 use Rattle.rcp_top.specs.declared.status.Status.TheVariants as status
-use Rattle.rcp_top.specs.Ending.{Ends}
 use Rattle.rcp_top.specs.Lines.{unreadable_line}
-use Rattle.rcp_top.specs.Outcome.{unreadable}
 use Rattle.rcp_top.proofs.EndingLemmas.{ends_behind_write}
 use Rattle.rcp_top.proofs.write.write_unreadable.Goals as goal
 
