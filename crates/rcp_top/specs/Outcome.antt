@@ -42,16 +42,19 @@ ideal_text plan frames = frames_text plan [] frames ++ end_line (length frames)
 abbrev pub unchanged : PlanParts → ℕ → List (List ℤ)
 unchanged plan frames = replicate frames (initial_values plan.sensors)
 
--- the refusals
+-- the words are no form
 abbrev pub usage : Outcome
 usage = record { status = status.Usage; text = usage_line }
 
+-- the task file is none
 abbrev pub task_refused : Outcome
 task_refused = record { status = status.TaskRefused; text = task_refused_line }
 
+-- the journal is none
 abbrev pub journal_refused : Outcome
 journal_refused = record { status = status.JournalRefused; text = journal_refused_line }
 
+-- no file was read under this word
 abbrev pub unreadable : List ℕ → Outcome
 unreadable word = record { status = status.ReadFault; text = unreadable_line word }
 
@@ -59,22 +62,22 @@ unreadable word = record { status = status.ReadFault; text = unreadable_line wor
 abbrev pub ideal_run : PlanParts → ℕ → Outcome
 ideal_run plan frames = record { status = status.Done; text = ideal_text plan (unchanged plan frames) }
 
--- by how many frames the journal gives
+-- the outcome by what the journal gives: so many frames, or that it is none
 abbrev pub of_frames : PlanParts → Result ℕ Unread → Outcome
 of_frames plan (Ok frames) = ideal_run plan frames
 of_frames plan (Err unread) = journal_refused
 
--- by what is held under the journal's word
+-- the outcome by what is held under the journal's word
 abbrev pub of_journal : PlanParts → List ℕ → Option (List ℕ) → Outcome
 of_journal plan word None = unreadable word
 of_journal plan word (Some bytes) = of_frames plan (small_journal bytes)
 
--- by the plan that the task file gives
+-- the outcome by what the task file gives: the parts of a plan, or that it is none
 abbrev pub of_plan : List ℕ → Option (List ℕ) → Result PlanParts Unread → Outcome
 of_plan journal held (Ok plan) = of_journal plan journal held
 of_plan journal held (Err unread) = task_refused
 
--- by what is held under the words of the task file and of the journal
+-- the outcome by what is held under the words of the task file and of the journal
 abbrev pub of_files : List ℕ → List ℕ → Option (List ℕ) → Option (List ℕ) → Outcome
 of_files file journal None journal_held = unreadable file
 of_files file journal (Some bytes) journal_held = of_plan journal journal_held (small_file bytes)
@@ -92,7 +95,7 @@ file_words None = []
 abbrev pub files_named : List (List ℕ) → List (List ℕ)
 files_named words = file_words (ideal_words words)
 
--- by the form of the words
+-- the outcome by the form of the words, over these files
 abbrev pub of_words : Option (List ℕ × List ℕ) → Files → Outcome
 of_words (Some (file, journal)) files = of_files file journal (files file) (files journal)
 of_words None files = usage
