@@ -1,0 +1,39 @@
+-- How many numbers stand on the stack.
+use Rattle.std.proofs.Common.{◌≡◌, ℕ, ◌+◌, ◌-◌, ℤ, List, [], ◌∷◌, ◌++◌, length, refl, length-append, arith}
+use Rattle.task_code.specs.declared.instruction.Instruction.{Instruction}
+use Rattle.task_code.specs.declared.instruction.Instruction.TheVariants.{Number, Sensor, Cell, Let, Neg, Not, Abs, Two, Clamp, If, Keep, Give}
+use Rattle.task_code.specs.Machine.{State, step, top_of, rest_of, height_after, lets_after}
+
+pub length_rest : (numbers : List ℤ) → length (rest_of numbers) ≡ length numbers - 1
+length_rest [] = refl
+length_rest (x ∷ xs) = omega arith
+
+-- the height behind an instruction
+pub height_step : (sensors cells : List ℤ) (i : Instruction) (s : State) → length (step sensors cells i s).stack ≡ height_after i (length s.stack)
+height_step sensors cells (Number n) s = omega arith
+height_step sensors cells (Sensor n) s = omega arith
+height_step sensors cells (Cell n) s = omega arith
+height_step sensors cells (Let n) s = omega arith
+height_step sensors cells Neg s = omega (arith, length_rest s.stack)
+height_step sensors cells Not s = omega (arith, length_rest s.stack)
+height_step sensors cells Abs s = omega (arith, length_rest s.stack)
+height_step sensors cells (Two op) s = omega (arith, length_rest s.stack, length_rest (rest_of s.stack))
+height_step sensors cells Clamp s = omega (arith, length_rest s.stack, length_rest (rest_of s.stack), length_rest (rest_of (rest_of s.stack)))
+height_step sensors cells If s = omega (arith, length_rest s.stack, length_rest (rest_of s.stack), length_rest (rest_of (rest_of s.stack)))
+height_step sensors cells Keep s = omega (arith, length_rest s.stack)
+height_step sensors cells Give s = omega (arith, length_rest s.stack)
+
+-- the lets behind an instruction
+pub lets_step : (sensors cells : List ℤ) (i : Instruction) (s : State) → length (step sensors cells i s).lets ≡ lets_after i (length s.lets)
+lets_step sensors cells (Number n) s = refl
+lets_step sensors cells (Sensor n) s = refl
+lets_step sensors cells (Cell n) s = refl
+lets_step sensors cells (Let n) s = refl
+lets_step sensors cells Neg s = refl
+lets_step sensors cells Not s = refl
+lets_step sensors cells Abs s = refl
+lets_step sensors cells (Two op) s = refl
+lets_step sensors cells Clamp s = refl
+lets_step sensors cells If s = refl
+lets_step sensors cells Keep s = omega (arith, length-append s.lets (top_of s.stack ∷ []))
+lets_step sensors cells Give s = refl

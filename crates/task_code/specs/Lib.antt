@@ -1,0 +1,4 @@
+pub mod Machine
+pub mod Buffer
+pub mod Compiler
+pub mod Correct
