@@ -1,3 +1,4 @@
 mod RunLemmas
 mod SizeLemmas
 mod StackLemmas
+mod LoopLemmas

@@ -95,6 +95,12 @@ room_from (instruction ∷ code) height lets =
 abbrev pub room_of : List Instruction → ℕ
 room_of code = room_from code 0 0
 
+-- the room of the code that takes the most
+abbrev pub greatest_room : List (List Instruction) → ℕ
+greatest_room [] = 0
+greatest_room (code ∷ codes) = max (room_of code) (greatest_room codes)
+
+-- how many results an instruction gives
 abbrev pub gives : Instruction → ℕ
 gives Give = 1
 gives _ = 0

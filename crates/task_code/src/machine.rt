@@ -8,10 +8,12 @@ ghost use Rattle.task_code.specs.Machine as machine;
 use crate::instruction::Instruction;
 use crate::row::Row;
 use crate::stack::Stack;
+use crate::steps::Steps;
 use crate::value::{is_true, op_result, truth, value_at};
 use rcp_base::{Memory, abs, neg};
 use rcp_model::Op;
 use std::alloc::Global;
+use std::sync::ledger::Ledger;
 
 /// What a run holds beside its results.
 #[derive(Debug, Drop)]
@@ -21,6 +23,43 @@ pub struct Machine {
 }
 
 impl Machine {
+    /// A machine with so many places for its stack, and as many for its lets.
+    pub fn new(alloc: Global, room: u32) -> Result<Machine, Memory>
+        ensures stack { IfOk result (λ machine. machine.stack.room ≡ room) }
+        ensures lets { IfOk result (λ machine. machine.lets.room ≡ room) }
+    {
+        Ok(Machine {
+            stack: Stack::new(alloc, room)?,
+            lets: Row::new(alloc, room)?,
+        })
+    }
+
+    /// Runs a code from an empty stack, and counts a step for each instruction.
+    pub fn run<L: Ledger>(
+        &mut self,
+        code: &[Instruction],
+        sensors: &[i64],
+        cells: &[i64],
+        out: &mut [i64],
+        steps: &mut Steps<L>,
+    )
+        requires stack { machine.room_of code.now ≤ self.old.stack.room }
+        requires lets { machine.room_of code.now ≤ self.old.lets.room }
+        requires out { length out.old ≡ machine.result_count code.now }
+        ensures values { out.new ≡ machine.results code.now sensors.now cells.now }
+        ensures stack_room { self.new.stack.room ≡ self.old.stack.room }
+        ensures lets_room { self.new.lets.room ≡ self.old.lets.room }
+        ensures steps { steps.new ≡ steps.old + length code.now }
+    {
+        self.stack.clear();
+        self.lets.clear();
+        let mut given = 0;
+        for instruction in code {
+            steps.tick();
+            given = self.act(*instruction, sensors, cells, out, given);
+        }
+    }
+
     /// Does one instruction, where so many results are given, and tells how many are given then.
     #[tactic(auto, using(crate::proofs::StackLemmas::length_rest))]
     pub fn act(

@@ -1,0 +1,56 @@
+-- What is left of a run behind its next instruction.
+use Rattle.std.proofs.Common.{◌≡◌, ℕ, ◌+◌, ◌≤◌, ◌<◌, max, ℤ, List, [], ◌∷◌, length, get_or, drop, refl, ap, sym, ◌∙◌, subst, add-one, drop-cons, arith}
+use Rattle.task_code.specs.declared.instruction.Instruction.{Instruction}
+use Rattle.task_code.specs.Machine.{State, step, run, height_after, lets_after, room_from, result_count, gives}
+use Rattle.task_code.proofs.StackLemmas.{height_step, lets_step}
+
+next : (code : List Instruction) (at : ℕ) (d : Instruction) → at < length code → drop at code ≡ get_or code at d ∷ drop (at + 1) code
+next code at d below = rw add-one (drop-cons code at d below)
+
+-- the rest does from the next state what it did from this one
+pub run_on :
+    (sensors cells : List ℤ) (code : List Instruction) (at : ℕ) (d : Instruction) (now later : State) → at < length code →
+    later ≡ step sensors cells (get_or code at d) now →
+    run sensors cells (drop (at + 1) code) later ≡ run sensors cells (drop at code) now
+run_on sensors cells code at d now later below is =
+    ap (λ s. run sensors cells (drop (at + 1) code) s) is ∙ ap (λ left. run sensors cells left now) (sym (next code at d below))
+
+room_here : (code : List Instruction) (height lets : ℕ) → max height lets ≤ room_from code height lets
+room_here [] height lets = omega arith
+room_here (i ∷ code) height lets = omega arith
+
+room_next : (i : Instruction) (code : List Instruction) (height lets : ℕ) → room_from code (height_after i height) (lets_after i lets) ≤ room_from (i ∷ code) height lets
+room_next i code height lets = omega arith
+
+-- the room of the rest is that of what was left, if not less
+room_on : (code : List Instruction) (at : ℕ) (d : Instruction) (height lets : ℕ) → at < length code →
+    room_from (drop (at + 1) code) (height_after (get_or code at d) height) (lets_after (get_or code at d) lets) ≤ room_from (drop at code) height lets
+room_on code at d height lets below =
+    rw (next code at d below) (room_next (get_or code at d) (drop (at + 1) code) height lets)
+
+-- the next instruction's value has a place
+pub height_fits : (code : List Instruction) (at : ℕ) (d : Instruction) (height lets : ℕ) → at < length code →
+    height_after (get_or code at d) height ≤ room_from (drop at code) height lets
+height_fits code at d height lets below =
+    omega (arith, room_on code at d height lets below, room_here (drop (at + 1) code) (height_after (get_or code at d) height) (lets_after (get_or code at d) lets))
+
+-- the next let has a place
+pub lets_fit : (code : List Instruction) (at : ℕ) (d : Instruction) (height lets : ℕ) → at < length code →
+    lets_after (get_or code at d) lets ≤ room_from (drop at code) height lets
+lets_fit code at d height lets below =
+    omega (arith, room_on code at d height lets below, room_here (drop (at + 1) code) (height_after (get_or code at d) height) (lets_after (get_or code at d) lets))
+
+-- the same room serves from the next state
+pub room_later :
+    (sensors cells : List ℤ) (code : List Instruction) (at : ℕ) (d : Instruction) (now later : State) → at < length code →
+    later ≡ step sensors cells (get_or code at d) now →
+    room_from (drop (at + 1) code) (length later.stack) (length later.lets) ≤ room_from (drop at code) (length now.stack) (length now.lets)
+room_later sensors cells code at d now later below is =
+    let height : length later.stack ≡ height_after (get_or code at d) (length now.stack) = ap (λ s. length s.stack) is ∙ height_step sensors cells (get_or code at d) now in
+    let lets : length later.lets ≡ lets_after (get_or code at d) (length now.lets) = ap (λ s. length s.lets) is ∙ lets_step sensors cells (get_or code at d) now in
+    rw (height, lets) (room_on code at d (length now.stack) (length now.lets) below)
+
+-- the results that are left
+pub count_on : (code : List Instruction) (at : ℕ) (d : Instruction) → at < length code →
+    result_count (drop at code) ≡ gives (get_or code at d) + result_count (drop (at + 1) code)
+count_on code at d below = rw (next code at d below)
