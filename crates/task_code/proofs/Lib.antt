@@ -2,3 +2,4 @@ mod RunLemmas
 mod SizeLemmas
 mod StackLemmas
 mod LoopLemmas
+pub mod RoomLaws

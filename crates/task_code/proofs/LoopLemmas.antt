@@ -1,5 +1,5 @@
 -- What is left of a run behind its next instruction.
-use Rattle.std.proofs.Common.{◌≡◌, ℕ, ◌+◌, ◌≤◌, ◌<◌, max, ℤ, List, [], ◌∷◌, length, get_or, drop, refl, ap, sym, ◌∙◌, subst, add-one, drop-cons, arith}
+use Rattle.std.proofs.Common.{◌≡◌, ℕ, ◌+◌, ◌≤◌, ◌<◌, max, ℤ, List, [], ◌∷◌, length, get_or, drop, ap, sym, ◌∙◌, add-one, drop-cons, arith}
 use Rattle.task_code.specs.declared.instruction.Instruction.{Instruction}
 use Rattle.task_code.specs.Machine.{State, step, run, height_after, lets_after, room_from, result_count, gives}
 use Rattle.task_code.proofs.StackLemmas.{height_step, lets_step}

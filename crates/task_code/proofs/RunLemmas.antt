@@ -1,7 +1,7 @@
 -- What the compiler's instructions do.
-use Rattle.std.proofs.Common.{◌≡◌, ℕ, ◌+◌, ◌≤◌, ℤ, List, [], ◌∷◌, ◌++◌, length, map, sum_by, refl, ap, sym, ◌∙◌, subst, append_assoc, length-append, arith}
+use Rattle.std.proofs.Common.{◌≡◌, ℤ, List, [], ◌∷◌, ◌++◌, map, refl, ap, sym, ◌∙◌, subst, append_assoc}
 use Rattle.std.proofs.lemmas.List.{append-nil}
-use Rattle.rcp_model.specs.declared.expr.Expr.{Expr, fold-Expr, map-Expr}
+use Rattle.rcp_model.specs.declared.expr.Expr.{Expr, map-Expr}
 use Rattle.rcp_model.specs.declared.expr.Expr.TheOpen.{Expr-F}
 use Rattle.rcp_model.specs.declared.expr.Expr.TheViews.{roll-Expr}
 use Rattle.rcp_model.specs.declared.expr.Expr.TheFolds.{fold-roll-Expr, ind-Expr}
@@ -11,15 +11,10 @@ use Rattle.rcp_model.specs.declared.task.Task.{Task}
 use Rattle.rcp_model.specs.Expr.{Value, value_of, value_step}
 use Rattle.rcp_model.specs.Task.{let_values, let_values_after}
 use Rattle.task_code.specs.declared.instruction.Instruction.{Instruction}
-use Rattle.task_code.specs.declared.instruction.Instruction.TheVariants.{Number, Sensor, Cell, Let, Neg, Not, Abs, Two, Clamp, If, Keep, Give}
-use Rattle.task_code.specs.Machine.{State, start, run, step, push, results}
+use Rattle.task_code.specs.declared.instruction.Instruction.TheVariants.{Neg, Not, Abs, Two, Clamp, If, Keep, Give}
+use Rattle.task_code.specs.Machine.{State, start, run, push, results}
 use Rattle.task_code.specs.Compiler.{code_of, code_step, lets_code, sets_code, task_code, expr_code}
 use Rattle.task_code.specs.Correct.{set_values}
-
--- one code, and then another
-pub run-append : (sensors cells : List ℤ) (a b : List Instruction) (s : State) → run sensors cells (a ++ b) s ≡ run sensors cells b (run sensors cells a s)
-run-append sensors cells [] b s = refl
-run-append sensors cells (i ∷ a) b s = run-append sensors cells a b (step sensors cells i s)
 
 -- a code puts a value on the stack, whatever follows
 abbrev Pushes : List Instruction → Value → Type 0

@@ -1,5 +1,5 @@
 -- How long the compiler's instructions are, and how many results they have.
-use Rattle.std.proofs.Common.{◌≡◌, ℕ, ◌+◌, ◌≤◌, List, [], ◌∷◌, ◌++◌, length, sum_by, refl, ap, sym, ◌∙◌, subst, length-append, arith}
+use Rattle.std.proofs.Common.{◌≡◌, ℕ, ◌+◌, List, [], ◌∷◌, ◌++◌, length, sum_by, refl, ap, sym, ◌∙◌, subst, length-append, arith}
 use Rattle.std.proofs.lemmas.List.Sums.{sum_by-cons}
 use Rattle.rcp_model.specs.declared.expr.Expr.{Expr, map-Expr}
 use Rattle.rcp_model.specs.declared.expr.Expr.TheOpen.{Expr-F}
@@ -11,7 +11,7 @@ use Rattle.rcp_model.specs.declared.task.Task.{Task}
 use Rattle.task_code.specs.declared.instruction.Instruction.{Instruction}
 use Rattle.task_code.specs.declared.instruction.Instruction.TheVariants.{Neg, Not, Abs, Two, Clamp, If, Keep, Give}
 use Rattle.task_code.specs.Machine.{result_count, gives}
-use Rattle.task_code.specs.Compiler.{code_of, code_step, lets_code, sets_code, task_code, expr_code, node_count, count_step, task_size}
+use Rattle.task_code.specs.Compiler.{code_of, code_step, lets_code, sets_code, task_code, expr_code, node_count, count_step}
 use Rattle.task_code.specs.Correct.{Computes, ComputesExpr}
 use Rattle.task_code.proofs.RunLemmas.{map-map, code_of-roll, results-task_code, results-expr_code}
 

@@ -1,8 +1,9 @@
 -- What instructions do with a stack of numbers, and how many numbers they hold. This project's own.
-use Rattle.std.specs.Prelude.{ℕ, ◌+◌, ◌-◌, max, ℤ, pos, not, List, [], ◌∷◌, ◌++◌, length, slice_index_or, if◌then◌else◌}
+use Rattle.std.specs.Prelude.{ℕ, ◌+◌, ◌-◌, max, ℤ, pos, not, List, [], ◌∷◌, ◌++◌, slice_index_or, if◌then◌else◌}
 use Rattle.std.specs.Int.{int_min, int_max}
 use Rattle.rcp_base.specs.Arithmetic.{negation_of, magnitude_of}
 use Rattle.rcp_model.specs.Expr.{is_true, truth, op_result}
+use Rattle.task_code.specs.Buffer.{Buffer}
 use Rattle.task_code.specs.declared.instruction.Instruction.{Instruction}
 use Rattle.task_code.specs.declared.instruction.Instruction.TheVariants.{Number, Sensor, Cell, Let, Neg, Not, Abs, Two, Clamp, If, Keep, Give}
 
@@ -12,6 +13,11 @@ pub record State : Type 0 where
   pub lets : List ℤ
   pub results : List ℤ
 
+-- the state with these buffers
+abbrev pub state_of : Buffer → Buffer → List ℤ → State
+state_of stack lets results = record { stack = stack.numbers; lets = lets.numbers; results = results }
+
+-- the state before the first instruction
 abbrev pub start : State
 start = record { stack = []; lets = []; results = [] }
 

@@ -11,6 +11,7 @@ use rcp_model::{Expr, Task};
 use std::alloc::Global;
 
 /// The code of a task, whose results are the values of its set rows in order. A let is computed once.
+/// More instructions than a `u32` counts are want of memory.
 #[tactic(auto, using(crate::proofs::SizeLemmas::task_code_computes))]
 pub fn compile(alloc: Global, task: &Task) -> Result<Code, Memory>
     ensures { IfOk result (Computes task.now) }
@@ -22,6 +23,7 @@ pub fn compile(alloc: Global, task: &Task) -> Result<Code, Memory>
 }
 
 /// The code of an expression that stands alone, whose one result is its value.
+/// More instructions than a `u32` counts are want of memory.
 #[tactic(auto, using(crate::proofs::SizeLemmas::expr_code_computes))]
 pub fn compile_expr(alloc: Global, expr: &Expr) -> Result<Code, Memory>
     ensures { IfOk result (ComputesExpr expr.now) }

@@ -18,3 +18,6 @@ pub use compiler::{compile, compile_expr};
 pub use instruction::Instruction;
 pub use runner::Runner;
 pub use steps::Steps;
+
+#[cfg(test)]
+mod tests;

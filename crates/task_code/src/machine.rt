@@ -73,7 +73,8 @@ impl Machine {
         requires stack { machine.height_after instruction (length self.old.stack.numbers) ≤ self.old.stack.room }
         requires lets { machine.lets_after instruction (length self.old.lets.numbers) ≤ self.old.lets.room }
         requires results { given + machine.gives instruction ≤ length out.old }
-        ensures step { record { stack = self.new.stack.numbers; lets = self.new.lets.numbers; results = take result out.new } ≡ machine.step sensors.now cells.now instruction (record { stack = self.old.stack.numbers; lets = self.old.lets.numbers; results = take given out.old }) }
+        ensures step { machine.state_of self.new.stack self.new.lets (take result out.new)
+            ≡ machine.step sensors.now cells.now instruction (machine.state_of self.old.stack self.old.lets (take given out.old)) }
         ensures given { result ≡ given + machine.gives instruction }
         ensures stack_room { self.new.stack.room ≡ self.old.stack.room }
         ensures lets_room { self.new.lets.room ≡ self.old.lets.room }
@@ -145,4 +146,3 @@ fn choose(stack: &mut Stack)
     let test = stack.pop();
     stack.push(if is_true(test) { a } else { b });
 }
-

@@ -31,8 +31,10 @@ impl Model for Runner {
 
 impl Runner {
     /// A runner with room for each of these codes.
+    #[tactic(auto, using(crate::proofs::RoomLaws::all_fit))]
     pub fn new(alloc: Global, codes: &[Code]) -> Result<Runner, Memory>
-        ensures { IfOk result (λ runner. runner ≡ greatest_room codes.now) }
+        ensures room { IfOk result (λ runner. runner ≡ greatest_room codes.now) }
+        ensures enough { IfOk result (λ runner. All (λ code. room_of code ≤ runner) codes.now) }
     {
         let room = greatest_room(codes);
         let machine = Machine::new(alloc, room)?;
@@ -70,7 +72,8 @@ impl Runner {
         ensures room { self.new ≡ self.old }
         ensures steps { steps.new ≡ steps.old + length code.now }
     {
-        self.machine.run(code.as_slice(), sensors, cells, out, steps);
+        self.machine
+            .run(code.as_slice(), sensors, cells, out, steps);
     }
 
     // Counts in a ledger that is made for it.

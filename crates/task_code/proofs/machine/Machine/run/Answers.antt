@@ -1,6 +1,6 @@
 -- Each instruction has room, and the rest does from the next state what was left to do.
-use Rattle.std.proofs.Common.{◌≡◌, ◌<◌, ◌∙◌, length, take, pos, arith}
-use Rattle.task_code.specs.Machine.{State}
+use Rattle.std.proofs.Common.{◌<◌, ◌∙◌, length, take, pos, arith}
+use Rattle.task_code.specs.Machine.{State, state_of}
 use Rattle.task_code.specs.declared.instruction.Instruction.{Instruction}
 use Rattle.task_code.specs.declared.instruction.Instruction.TheVariants.{Number}
 use Rattle.task_code.proofs.LoopLemmas.{run_on, height_fits, lets_fit, room_later, count_on}
@@ -16,8 +16,8 @@ act-given-requires-clause-lets g c =
 
 pub loop-instruction-preserved : goal.loop-instruction-preserved
 loop-instruction-preserved g c =
-    let now : State = record { stack = c.loop-instruction.self.stack.numbers; lets = c.loop-instruction.self.lets.numbers; results = take c.loop-instruction.given c.loop-instruction.out } in
-    let later : State = record { stack = c.act-given.new.self.stack.numbers; lets = c.act-given.new.self.lets.numbers; results = take c.act-given.result c.act-given.new.out } in
+    let now : State = state_of c.loop-instruction.self.stack c.loop-instruction.self.lets (take c.loop-instruction.given c.loop-instruction.out) in
+    let later : State = state_of c.act-given.new.self.stack c.act-given.new.self.lets (take c.act-given.result c.act-given.new.out) in
     let d : Instruction = Number (pos 0) in
     let below : c.loop-instruction.instruction-index < length c.args.code.now = omega arith in
     let room = room_later c.args.sensors.now c.args.cells.now c.args.code.now c.loop-instruction.instruction-index d now later below c.act-given.ensures.step in
