@@ -1,5 +1,5 @@
 mod RunLemmas
-mod SizeLemmas
+pub mod SizeLemmas
 mod StackLemmas
 mod LoopLemmas
 pub mod RoomLaws

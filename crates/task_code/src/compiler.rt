@@ -1,6 +1,7 @@
 //! The compiler's two calls.
 //! This project's own.
-ghost use Rattle.std.specs.Prelude.{IfOk};
+ghost use Rattle.std.specs.Prelude.{◌≡◌, IfOk};
+ghost use Rattle.task_code.specs.Compiler.{task_code, expr_code};
 ghost use Rattle.task_code.specs.Correct.{Computes, ComputesExpr};
 
 use crate::code::Code;
@@ -14,7 +15,8 @@ use std::alloc::Global;
 /// More instructions than a `u32` counts are want of memory.
 #[tactic(auto, using(crate::proofs::SizeLemmas::task_code_computes))]
 pub fn compile(alloc: Global, task: &Task) -> Result<Code, Memory>
-    ensures { IfOk result (Computes task.now) }
+    ensures code { IfOk result (λ code. code ≡ task_code task.now) }
+    ensures computes { IfOk result (Computes task.now) }
 {
     let mut instructions = Vec::new(alloc);
     emit_lets(&mut instructions, task.lets.as_slice())?;
@@ -26,7 +28,8 @@ pub fn compile(alloc: Global, task: &Task) -> Result<Code, Memory>
 /// More instructions than a `u32` counts are want of memory.
 #[tactic(auto, using(crate::proofs::SizeLemmas::expr_code_computes))]
 pub fn compile_expr(alloc: Global, expr: &Expr) -> Result<Code, Memory>
-    ensures { IfOk result (ComputesExpr expr.now) }
+    ensures code { IfOk result (λ code. code ≡ expr_code expr.now) }
+    ensures computes { IfOk result (ComputesExpr expr.now) }
 {
     let mut instructions = Vec::new(alloc);
     emit_expr(&mut instructions, expr)?;
