@@ -1,0 +1,64 @@
+//! The frame table.
+//! After NASA TM-102716.
+ghost use Rattle.std.specs.Prelude.{◌≡◌, ◌<◌, [], IfOk, length, slice_index_or};
+ghost use Rattle.rcp_model.specs.declared.plan.ActuatorRow.{ActuatorRow};
+ghost use Rattle.rcp_model.specs.declared.plan.PlanParts.{PlanParts};
+ghost use Rattle.rcp_model.specs.Slot.{cells_after_slot, actuator_value};
+ghost use Rattle.frame_table.specs.Plan.{IsOf};
+
+use crate::build::slots_of;
+use crate::commands::Commands;
+use crate::programs::Programs;
+use rcp_base::{List, Memory};
+use rcp_model::PlanParts;
+use std::alloc::Global;
+
+/// What runs in each slot and what each actuator is commanded. Running it takes no memory.
+#[derive(Debug, Drop)]
+pub struct Table {
+    programs: Programs,
+    slots: List<List<u16>>,
+    commands: Commands,
+}
+
+impl Table {
+    /// The table of a plan.
+    pub fn new(alloc: Global, plan: &PlanParts) -> Result<Table, Memory>
+        ensures { IfOk result (IsOf plan.now) }
+    {
+        Ok(Table {
+            programs: Programs::new(alloc, plan.tasks.as_slice())?,
+            slots: slots_of(alloc, plan.slots.as_slice())?,
+            commands: Commands::new(alloc, plan.actuators.as_slice())?,
+        })
+    }
+
+    /// Runs the tasks of a slot. A slot that isn't there changes nothing.
+    pub fn run_slot(&mut self, slot: usize, sensors: &[i64], cells: &mut [i64])
+        ensures cells { (plan : PlanParts) → IsOf plan self.old → cells.new ≡ cells_after_slot plan slot sensors.now cells.old }
+        ensures table { self.new ≡ self.old }
+    {
+        let numbers = numbers_of(self.slots.as_slice(), slot);
+        self.programs.run(numbers, sensors, cells);
+    }
+
+    /// The value that an actuator is commanded.
+    #[tactic(auto, using(crate::proofs::PlanLemmas::value_is))]
+    pub fn command(&mut self, actuator: usize, sensors: &[i64], cells: &[i64]) -> i64
+        requires { actuator < length self.old.commands }
+        ensures value { (plan : PlanParts) (d : ActuatorRow) → IsOf plan self.old → result ≡ actuator_value (slice_index_or plan.actuators actuator d) sensors.now cells.now }
+        ensures table { self.new ≡ self.old }
+    {
+        self.commands.value(actuator, sensors, cells)
+    }
+}
+
+// The numbers of a slot's tasks.
+fn numbers_of(slots: &[List<u16>], slot: usize) -> &[u16]
+    ensures { result.now ≡ slice_index_or slots.now slot [] }
+{
+    match slots.get(slot) {
+        Some(numbers) => numbers.as_slice(),
+        None => &[],
+    }
+}
