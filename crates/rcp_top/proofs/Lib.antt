@@ -3,7 +3,6 @@ mod TextLemmas
 mod RecordLemmas
 mod DigitLemmas
 mod JournalLemmas
-mod ProcessorLemmas
 mod FrameLemmas
 mod VoteLemmas
 mod EndingLemmas

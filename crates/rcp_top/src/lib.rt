@@ -8,7 +8,6 @@ mod document;
 mod ideal;
 pub mod laws;
 mod lines;
-mod processor;
 mod records;
 mod small_file;
 mod small_journal;
