@@ -63,3 +63,8 @@ value_is plan table actuator d sensors cells value is_of below gave =
     let both : value ∷ [] ≡ actuator_value (get_or plan.actuators actuator d) sensors cells ∷ [] =
     sym gave ∙ ap (λ c. results c sensors cells) code ∙ (expr_code_computes (get_or plan.actuators actuator d).value).values sensors cells in
     ap (λ values. get_or values 0 (pos 0)) both
+
+-- a table of a plan has a command for each of its actuators
+pub as_many_commands : (plan : PlanParts) (table : Table) → IsOf plan table → length table.commands ≡ length plan.actuators
+as_many_commands plan table is_of =
+    ap length is_of.commands ∙ length-map plan.actuators (λ (actuator : ActuatorRow). expr_code actuator.value)

@@ -9,3 +9,6 @@ mod table;
 mod write_back;
 
 pub use table::Table;
+
+#[cfg(test)]
+mod tests;
