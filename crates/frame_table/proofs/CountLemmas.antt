@@ -9,7 +9,7 @@ use Rattle.rcp_model.specs.declared.plan.ActuatorRow.{ActuatorRow}
 use Rattle.task_code.specs.declared.instruction.Instruction.{Instruction}
 use Rattle.task_code.specs.Machine.{result_count}
 use Rattle.task_code.specs.Compiler.{task_code, expr_code}
-use Rattle.task_code.proofs.SizeLemmas.{task_code_computes, expr_code_computes}
+use Rattle.task_code.proofs.SizeLaws.{task_code_computes, expr_code_computes}
 use Rattle.frame_table.specs.Tasks.{greatest_length, cells_after_code, cells_after_number}
 use Rattle.frame_table.specs.Plan.{targets_of, commands_of}
 

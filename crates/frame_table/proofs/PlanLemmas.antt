@@ -9,7 +9,7 @@ use Rattle.rcp_model.specs.Slot.{no_task, no_slot, numbered, cells_after_tasks, 
 use Rattle.rcp_model.specs.Task.{cells_after_task}
 use Rattle.task_code.specs.Machine.{results}
 use Rattle.task_code.specs.Compiler.{task_code, expr_code}
-use Rattle.task_code.proofs.SizeLemmas.{expr_code_computes}
+use Rattle.task_code.proofs.SizeLaws.{expr_code_computes}
 use Rattle.frame_table.specs.declared.table.Table.{Table}
 use Rattle.frame_table.specs.Tasks.{cells_after_number, cells_after_numbers}
 use Rattle.frame_table.specs.Plan.{IsOf, targets_of, programs_of, slots_of}

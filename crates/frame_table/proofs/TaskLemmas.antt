@@ -7,7 +7,7 @@ use Rattle.rcp_model.specs.declared.task.Task.{Task}
 use Rattle.rcp_model.specs.Expr.{value_of}
 use Rattle.rcp_model.specs.Task.{let_values, expression_for, written, cell_after, cells_after_task}
 use Rattle.task_code.specs.Compiler.{task_code}
-use Rattle.task_code.proofs.SizeLemmas.{task_code_computes}
+use Rattle.task_code.proofs.SizeLaws.{task_code_computes}
 use Rattle.frame_table.specs.Tasks.{written_back, cells_after_code}
 use Rattle.frame_table.specs.Plan.{targets_of}
 

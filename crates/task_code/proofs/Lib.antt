@@ -1,5 +1,5 @@
 mod RunLemmas
-pub mod SizeLemmas
+pub mod SizeLaws
 mod StackLemmas
 mod LoopLemmas
 pub mod RoomLaws

@@ -13,7 +13,7 @@ use std::alloc::Global;
 
 /// The code of a task, whose results are the values of its set rows in order. A let is computed once.
 /// More instructions than a `u32` counts are want of memory.
-#[tactic(auto, using(crate::proofs::SizeLemmas::task_code_computes))]
+#[tactic(auto, using(crate::proofs::SizeLaws::task_code_computes))]
 pub fn compile(alloc: Global, task: &Task) -> Result<Code, Memory>
     ensures code { IfOk result (λ code. code ≡ task_code task.now) }
     ensures computes { IfOk result (Computes task.now) }
@@ -26,7 +26,7 @@ pub fn compile(alloc: Global, task: &Task) -> Result<Code, Memory>
 
 /// The code of an expression that stands alone, whose one result is its value.
 /// More instructions than a `u32` counts are want of memory.
-#[tactic(auto, using(crate::proofs::SizeLemmas::expr_code_computes))]
+#[tactic(auto, using(crate::proofs::SizeLaws::expr_code_computes))]
 pub fn compile_expr(alloc: Global, expr: &Expr) -> Result<Code, Memory>
     ensures code { IfOk result (λ code. code ≡ expr_code expr.now) }
     ensures computes { IfOk result (ComputesExpr expr.now) }
