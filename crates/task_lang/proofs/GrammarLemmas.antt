@@ -1,6 +1,6 @@
 -- What stands before the last token of a list.
 use Rattle.std.proofs.Common.{◌≡◌, List, [], ◌∷◌, ◌++◌, Bool, true, false, cond, Some, None, option_map, ap, refl, sym, ◌∙◌}
-use Rattle.task_lang.specs.declared.lexer.Token.{Token}
+use Rattle.task_lang.specs.declared.token.Token.{Token}
 use Rattle.task_lang.specs.Grammar.{is_semicolon, before_semicolon}
 
 -- a first token goes in front of what a test lets through

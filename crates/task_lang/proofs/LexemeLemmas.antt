@@ -1,5 +1,5 @@
 -- Which texts are numbers, and that a text that is not UTF-8 is no token.
-use Rattle.std.proofs.Common.{◌≡◌, ℕ, ◌^◌, ◌<◌, ℤ, pos, Bool, true, false, List, [], ◌∷◌, length, codes, lit<, Result, Ok, Err, refl, sym, arith, rules, subst, IsUtf8}
+use Rattle.std.proofs.Common.{◌≡◌, ℕ, ◌^◌, ◌<◌, ℤ, pos, Bool, true, false, List, [], ◌∷◌, length, Some, None, Result, Ok, Err, nat_lt, cond, refl, sym, ap, ◌∙◌, arith, rules, subst, IsUtf8}
 use Rattle.std.proofs.lemmas.Grind.{common_steps}
 use Rattle.std.specs.List.{list_all}
 use Rattle.std.specs.Char.{is_ascii_lowercase, is_ascii_digit}
@@ -12,9 +12,10 @@ use Rattle.std.proofs.lemmas.Str.{IsUtf8-from_ascii}
 use Rattle.std.proofs.lemmas.Str.Ascii.{IsAscii-nil, IsAscii-cons}
 use Rattle.std.proofs.lemmas.Slice.Eq.{bytes_eq-Decides}
 use Rattle.std.proofs.lemmas.Bool.Decides.{nat_tests}
-use Rattle.rcp_base.specs.Name.{is_name_byte, is_word, is_name}
-use Rattle.task_lang.specs.declared.lexer.Token.TheVariants.{Bad}
-use Rattle.task_lang.specs.Tokens.{number_of, token_of}
+use Rattle.rcp_base.specs.Name.{is_name_byte, is_word, is_name, name_of}
+use Rattle.task_lang.specs.declared.token.Token.{Token}
+use Rattle.task_lang.specs.declared.token.Token.TheVariants.{Bad}
+use Rattle.task_lang.specs.Tokens.{number_of, number_or_word, operators, reserved, written, token_or, token_of}
 
 -- digits are the numerals that std reads
 digits_are_numerals : IsNumeralModel (λ ds. list_all is_ascii_digit ds ≡ true) (digits_value 10)
@@ -72,6 +73,23 @@ unlike lexeme literal broken ascii = false_if_not (bytes_eq lexeme literal) (λ 
     let P : List ℕ → Type 0 = IsUtf8 in
     broken (subst P (sym ((bytes_eq-Decides lexeme literal).0 same)) (IsUtf8-from_ascii literal ascii)))
 
+-- the texts of a table are ASCII
+abbrev is_ascii_table : List (List ℕ × Token) → Bool
+is_ascii_table table = list_all (λ (row : List ℕ × Token). list_all (λ b. nat_lt b 128) row.0) table
+
+nat_lt_below : (b : ℕ) → nat_lt b 128 ≡ true → b < 128
+nat_lt_below b h = grind (arith, nat_tests)
+
+-- no such table has a text that is not UTF-8
+unwritten : (table : List (List ℕ × Token)) (lexeme : List ℕ) → ¬ (IsUtf8 lexeme) → is_ascii_table table ≡ true → written table lexeme ≡ None
+unwritten [] lexeme broken ascii = refl
+unwritten (row ∷ rows) lexeme broken ascii =
+    let here : list_all (λ b. nat_lt b 128) row.0 ≡ true = grind arith in
+    let rest : is_ascii_table rows ≡ true = grind arith in
+    let other : bytes_eq lexeme row.0 ≡ false =
+    unlike lexeme row.0 broken (ascii_by_test (λ b. nat_lt b 128) nat_lt_below row.0 here) in
+    ap (λ same. cond same (Some row.1) (written rows lexeme)) other ∙ unwritten rows lexeme broken rest
+
 -- a text that is not UTF-8 is no token
 pub token_of_broken : (lexeme : List ℕ) → ¬ (IsUtf8 lexeme) → Bad ≡ token_of lexeme
 unfolding token_of
@@ -79,9 +97,8 @@ token_of_broken lexeme broken =
     let digits : list_all is_ascii_digit lexeme ≡ false =
     false_if_not _ (λ h. broken (IsUtf8-from_ascii lexeme (ascii_by_test is_ascii_digit digit_below lexeme h))) in
     let name : is_name lexeme ≡ false = false_if_not _ (λ h. broken (IsUtf8-from_ascii lexeme (name_ascii lexeme h))) in
-    let plus : bytes_eq lexeme (codes "+") ≡ false = unlike lexeme (codes "+") broken (IsAscii-cons 43 [] (lit< tt) IsAscii-nil) in
-    let minus : bytes_eq lexeme (codes "-") ≡ false = unlike lexeme (codes "-") broken (IsAscii-cons 45 [] (lit< tt) IsAscii-nil) in
-    let semicolon : bytes_eq lexeme (codes ";") ≡ false = unlike lexeme (codes ";") broken (IsAscii-cons 59 [] (lit< tt) IsAscii-nil) in
-    let assign : bytes_eq lexeme (codes ":=") ≡ false =
-    unlike lexeme (codes ":=") broken (IsAscii-cons 58 (61 ∷ []) (lit< tt) (IsAscii-cons 61 [] (lit< tt) IsAscii-nil)) in
-    grind (arith, common_steps)
+    let operator : written operators lexeme ≡ None = unwritten operators lexeme broken refl in
+    let word : written reserved lexeme ≡ None = unwritten reserved lexeme broken refl in
+    let neither : number_or_word (number_of lexeme) (name_of lexeme) ≡ Bad = grind (arith, common_steps) in
+    sym (ap (λ found. token_or found (written reserved lexeme) (number_or_word (number_of lexeme) (name_of lexeme))) operator
+    ∙ (ap (λ found. token_or None found (number_or_word (number_of lexeme) (name_of lexeme))) word ∙ neither))

@@ -1,11 +1,11 @@
 -- How the tokens of a text follow from its first byte.
-use Rattle.std.proofs.Common.{◌≡◌, ◌++◌, append-nil, add-one, ℕ, ◌+◌, zero, suc, ◌≤◌, Bool, true, false, cond, List, [], ◌∷◌, map, length, take, drop, nat_eq, codes, refl, sym, ap, ◌∙◌, arith}
+use Rattle.std.proofs.Common.{◌≡◌, ◌++◌, append-nil, add-one, ℕ, ◌+◌, zero, suc, ◌≤◌, Bool, true, false, ◌&&◌, cond, List, [], ◌∷◌, map, length, take, drop, nat_eq, codes, refl, sym, ap, ◌∙◌, arith}
 use Rattle.std.proofs.Math.Seq.{append_snoc}
 use Rattle.std.specs.List.{starts_with, prefix_len}
 use Rattle.std.specs.Char.{is_ascii_lowercase, is_ascii_digit}
 use Rattle.rcp_base.specs.Name.{is_name_byte}
-use Rattle.task_lang.specs.declared.lexer.Token.{Token}
-use Rattle.task_lang.specs.Tokens.{is_blank, tail_of, lexemes_behind, token_of, tokens_of}
+use Rattle.task_lang.specs.declared.token.Token.{Token}
+use Rattle.task_lang.specs.Tokens.{is_blank, goes_with_equal, tail_of, lexemes_behind, lefts_behind, token_of, tokens_of, lefts_of}
 
 -- the first items of a text
 abbrev IsFront : List ℕ → List ℕ → Type 0
@@ -31,7 +31,7 @@ take_within (suc n) (b ∷ rest) = omega (arith, take_within n rest)
 
 tail_is_front : (first : ℕ) (behind : List ℕ) → IsFront behind (tail_of first behind)
 tail_is_front first behind =
-    one_is_front behind (is_ascii_lowercase first) (is_ascii_digit first) (starts_with nat_eq (first ∷ behind) (codes ":="))
+    one_is_front behind (is_ascii_lowercase first) (is_ascii_digit first) (goes_with_equal first && starts_with nat_eq behind (codes "="))
     (prefix_len is_name_byte behind) (prefix_len is_ascii_digit behind)
 
 -- a token's tail is a front of what stands behind its first byte
@@ -67,6 +67,28 @@ tokens_of-token b rest dark =
     ap (λ test. map token_of (cond test (lexemes_behind 0 rest) ((b ∷ tail_of b rest) ∷ lexemes_behind (length (tail_of b rest)) rest))) dark
     ∙ ap (λ lexemes. token_of (b ∷ tail_of b rest) ∷ map token_of lexemes) (lexemes_behind-drop (length (tail_of b rest)) rest)
 
+-- likewise the places where they begin
+lefts_behind-drop : (n : ℕ) (text : List ℕ) → lefts_behind n text ≡ lefts_behind 0 (drop n text)
+lefts_behind-drop zero text = refl
+lefts_behind-drop (suc n) [] = refl
+lefts_behind-drop (suc n) (b ∷ rest) = lefts_behind-drop n rest
+
+pub lefts_of-nil : lefts_of [] ≡ []
+unfolding lefts_of
+lefts_of-nil = refl
+
+pub lefts_of-blank : (b : ℕ) (rest : List ℕ) → is_blank b ≡ true → lefts_of (b ∷ rest) ≡ lefts_of rest
+unfolding lefts_of
+lefts_of-blank b rest blank =
+    ap (λ test. cond test (lefts_behind 0 rest) (length (b ∷ rest) ∷ lefts_behind (length (tail_of b rest)) rest)) blank
+
+pub lefts_of-token : (b : ℕ) (rest : List ℕ) → is_blank b ≡ false
+    → lefts_of (b ∷ rest) ≡ length (b ∷ rest) ∷ lefts_of (drop (length (tail_of b rest)) rest)
+unfolding lefts_of
+lefts_of-token b rest dark =
+    ap (λ test. cond test (lefts_behind 0 rest) (length (b ∷ rest) ∷ lefts_behind (length (tail_of b rest)) rest)) dark
+    ∙ ap (λ places. length (b ∷ rest) ∷ places) (lefts_behind-drop (length (tail_of b rest)) rest)
+
 -- a loop goes on over a blank
 pub tokens_after_blank : (done all : List Token) (text rest : List ℕ) (first : ℕ) → text ≡ first ∷ rest → is_blank first ≡ true
     → done ++ tokens_of text ≡ all → done ++ tokens_of rest ≡ all
@@ -92,3 +114,22 @@ tokens_after_token done more all text rest left first size token is dark is_size
 pub tokens_at_end : (done all : List Token) (text : List ℕ) → length text ≡ 0 → done ++ tokens_of text ≡ all → done ≡ all
 tokens_at_end done all [] none whole = sym (append-nil done) ∙ (ap (λ rest. done ++ rest) (sym tokens_of-nil) ∙ whole)
 tokens_at_end done all (b ∷ rest) none whole = absurd (omega arith)
+
+pub lefts_after_blank : (done all text rest : List ℕ) (first : ℕ) → text ≡ first ∷ rest → is_blank first ≡ true
+    → done ++ lefts_of text ≡ all → done ++ lefts_of rest ≡ all
+lefts_after_blank done all text rest first is blank whole =
+    ap (λ more. done ++ more) (sym (lefts_of-blank first rest blank) ∙ ap lefts_of (sym is)) ∙ whole
+
+pub lefts_after_token : (done more all text rest left : List ℕ) (first size : ℕ)
+    → text ≡ first ∷ rest → is_blank first ≡ false → size ≡ length (tail_of first rest)
+    → left ≡ drop size rest → more ≡ done ++ length text ∷ [] → done ++ lefts_of text ≡ all → more ++ lefts_of left ≡ all
+lefts_after_token done more all text rest left first size is dark is_size is_left is_more whole =
+    let next : length text ∷ lefts_of left ≡ lefts_of text =
+    ap (λ list. length list ∷ lefts_of left) is
+    ∙ (ap (λ behind. length (first ∷ rest) ∷ lefts_of behind) (is_left ∙ ap (λ n. drop n rest) is_size)
+    ∙ (sym (lefts_of-token first rest dark) ∙ ap lefts_of (sym is))) in
+    ap (λ list. list ++ lefts_of left) is_more ∙ (append_snoc done (length text) (lefts_of left) ∙ (ap (λ places. done ++ places) next ∙ whole))
+
+pub lefts_at_end : (done all text : List ℕ) → length text ≡ 0 → done ++ lefts_of text ≡ all → done ≡ all
+lefts_at_end done all [] none whole = sym (append-nil done) ∙ (ap (λ rest. done ++ rest) (sym lefts_of-nil) ∙ whole)
+lefts_at_end done all (b ∷ rest) none whole = absurd (omega arith)

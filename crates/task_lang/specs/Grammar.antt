@@ -10,8 +10,8 @@ use Rattle.rcp_model.specs.declared.task.SetRow.{SetRow}
 use Rattle.rcp_model.specs.declared.task.Task.{Task}
 use Rattle.task_lang.specs.declared.fault.LangFault.{LangFault}
 use Rattle.task_lang.specs.declared.fault.LangFault.TheVariants.{Syntax}
-use Rattle.task_lang.specs.declared.lexer.Token.{Token}
-use Rattle.task_lang.specs.declared.lexer.Token.TheVariants.{Word, Number, Plus, Minus, Assign, Semicolon}
+use Rattle.task_lang.specs.declared.token.Token.{Token}
+use Rattle.task_lang.specs.declared.token.Token.TheVariants.{Word, Number, Plus, Minus, Assign, Semicolon}
 use Rattle.task_lang.specs.Tokens.{tokens_of}
 
 -- a `do` over options: the first None is the whole's

@@ -1,3 +1,14 @@
 pub mod Tokens
 pub mod Grammar
 pub mod Verdicts
+pub mod Words
+pub mod Rules
+pub mod Reader
+pub mod Faults
+pub mod Statements
+pub mod NameFaults
+pub mod Answers
+pub mod TextReaders
+pub mod Scopes
+pub mod Levels
+pub mod Readings

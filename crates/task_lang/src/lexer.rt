@@ -5,29 +5,20 @@ ghost use Rattle.rcp_base.specs.Name.{is_name_byte, name_of};
 ghost use Rattle.std.specs.Char.{is_ascii_digit};
 ghost use Rattle.std.specs.List.{list_all};
 ghost use Rattle.task_lang.specs.Tokens as spec;
-ghost use Rattle.task_lang.specs.Tokens.{tokens_of};
+ghost use Rattle.task_lang.specs.Tokens.{tokens_of, lefts_of};
 
+use crate::token::Token;
 use rcp_base::{List, Memory, Name};
 use std::alloc::Global;
 use std::str;
 
-/// A token. `Bad` is what no text of the language has.
-#[derive(Clone, Copy, Debug)]
-pub enum Token {
-    Word(Name),
-    Number(i64),
-    Plus,
-    Minus,
-    Assign,
-    Semicolon,
-    Bad,
-}
-
-/// The tokens of a text, in its order.
-pub fn tokens(alloc: Global, text: &[u8]) -> Result<List<Token>, Memory>
-    ensures { IfOk result (λ list. list ≡ tokens_of text.now) }
+/// The tokens of a text, in its order, and how many bytes are left where each begins.
+pub fn tokens(alloc: Global, text: &[u8]) -> Result<(List<Token>, List<usize>), Memory>
+    ensures tokens { IfOk result (λ cut. cut.0 ≡ tokens_of text.now) }
+    ensures lefts { IfOk result (λ cut. cut.1 ≡ lefts_of text.now) }
 {
     let mut list = List::new(alloc);
+    let mut lefts = List::new(alloc);
     let mut rest = text;
     while let Some((first, behind)) = rest.split_first() {
         if is_blank(*first) {
@@ -35,10 +26,11 @@ pub fn tokens(alloc: Global, text: &[u8]) -> Result<List<Token>, Memory>
         } else {
             let size = tail_len(*first, behind);
             list.push(token_of(&rest[..size + 1]))?;
+            lefts.push(rest.len())?;
             rest = &behind[size..];
         }
     }
-    Ok(list)
+    Ok((list, lefts))
 }
 
 fn is_blank(b: u8) -> bool
@@ -55,11 +47,17 @@ fn tail_len(first: u8, behind: &[u8]) -> usize
         name_bytes_len(behind)
     } else if first.is_ascii_digit() {
         digits_len(behind)
-    } else if first == b':' && behind.starts_with(b"=") {
+    } else if goes_with_equal(first) && behind.starts_with(b"=") {
         1
     } else {
         0
     }
+}
+
+fn goes_with_equal(b: u8) -> bool
+    ensures { result ≡ spec.goes_with_equal b }
+{
+    b == b':' || b == b'=' || b == b'!' || b == b'<' || b == b'>'
 }
 
 fn name_bytes_len(text: &[u8]) -> usize
@@ -95,12 +93,52 @@ fn token_of(lexeme: &[u8]) -> Token
 fn token_of_text(text: &str) -> Token
     ensures { result ≡ spec.token_of text.now }
 {
+    match (operator_of(text), reserved_of(text)) {
+        (Some(token), _) => token,
+        (None, Some(token)) => token,
+        (None, None) => number_or_word(text),
+    }
+}
+
+fn operator_of(text: &str) -> Option<Token>
+    ensures { result ≡ spec.written spec.operators text.now }
+{
     match text {
-        "+" => Token::Plus,
-        "-" => Token::Minus,
-        ";" => Token::Semicolon,
-        ":=" => Token::Assign,
-        _ => number_or_word(text),
+        ":=" => Some(Token::Assign),
+        "==" => Some(Token::EqualEqual),
+        "!=" => Some(Token::NotEqual),
+        "<=" => Some(Token::LessEqual),
+        ">=" => Some(Token::GreaterEqual),
+        "<" => Some(Token::Less),
+        ">" => Some(Token::Greater),
+        "=" => Some(Token::Equal),
+        "+" => Some(Token::Plus),
+        "-" => Some(Token::Minus),
+        "*" => Some(Token::Star),
+        "/" => Some(Token::Slash),
+        "%" => Some(Token::Percent),
+        "(" => Some(Token::Open),
+        ")" => Some(Token::Close),
+        "," => Some(Token::Comma),
+        ";" => Some(Token::Semicolon),
+        _ => None,
+    }
+}
+
+fn reserved_of(text: &str) -> Option<Token>
+    ensures { result ≡ spec.written spec.reserved text.now }
+{
+    match text {
+        "let" => Some(Token::Let),
+        "and" => Some(Token::And),
+        "or" => Some(Token::Or),
+        "not" => Some(Token::Not),
+        "abs" => Some(Token::Abs),
+        "min" => Some(Token::Min),
+        "max" => Some(Token::Max),
+        "clamp" => Some(Token::Clamp),
+        "if" => Some(Token::If),
+        _ => None,
     }
 }
 

@@ -3,8 +3,12 @@
 #![tactic(auto)]
 
 mod fault;
+pub mod laws;
 mod lexer;
+mod names;
 mod parser;
+mod reader;
+mod token;
 
 pub use fault::LangFault;
 pub use parser::{parse_body, parse_expr};

@@ -6,7 +6,8 @@ ghost use Rattle.task_lang.specs.Grammar.{expr_verdict, body_verdict, verdict_on
 ghost use Rattle.task_lang.specs.Verdicts.{Gives};
 
 use crate::LangFault;
-use crate::lexer::{Token, tokens};
+use crate::lexer::tokens;
+use crate::token::Token;
 use rcp_base::{List, Name};
 use rcp_model::{Expr, Op, SetRow, Task};
 use sqlite_items::Boxed;
@@ -28,7 +29,7 @@ pub fn parse_body(
     requires cells { length cells.now ≤ 64 }
     ensures { Gives (body_verdict sensors.now cells.now name text.now) result }
 {
-    let list = tokens(alloc, text.as_bytes())?;
+    let (list, _) = tokens(alloc, text.as_bytes())?;
     let row = row_of(alloc, list.as_slice(), sensors, cells)?;
     let mut sets = List::new(alloc);
     sets.push(row)?;
@@ -52,7 +53,7 @@ pub fn parse_expr(
     requires cells { length cells.now ≤ 64 }
     ensures { Gives (expr_verdict sensors.now cells.now text.now) result }
 {
-    let list = tokens(alloc, text.as_bytes())?;
+    let (list, _) = tokens(alloc, text.as_bytes())?;
     sum_of(alloc, list.as_slice(), sensors, cells)
 }
 

@@ -1,0 +1,85 @@
+-- Whether each name of a text that is in the grammar stands where it may: a scan over the text's tokens.
+-- This project's own.
+use Rattle.std.specs.Prelude.{ℕ, suc, Bool, true, false, not, ◌&&◌, ◌||◌, List, [], ◌∷◌, ◌++◌, length, Option, Some, None, is_some, if◌then◌else◌}
+use Rattle.task_lang.specs.declared.token.Token.{Token}
+use Rattle.task_lang.specs.declared.token.Token.TheVariants as token
+use Rattle.task_lang.specs.Words.{Scope, place_in}
+use Rattle.task_lang.specs.Reader.{choose}
+use Rattle.task_lang.specs.Statements.{scope_of, word_of}
+
+-- what can be wrong with a name
+pub data NameFault : Type 0 where
+  -- an expression uses what is no sensor, no cell and no let of an earlier statement
+  IsUnknown : NameFault
+  -- a statement names what it may not
+  IsBadTarget : NameFault
+
+-- what a name stands for
+pub data Role : Type 0 where
+  NewLet : Role
+  SetCell : Role
+  Operand : Role
+
+-- what the tokens before have named
+pub record Seen : Type 0 where
+  -- the names that an expression may use
+  pub scope : Scope
+  -- the let of the statement that has not ended
+  pub begun : List (List ℕ)
+  -- the cells that were set
+  pub set : List (List ℕ)
+  -- `let` stands right before
+  pub behind_let : Bool
+
+abbrev pub is_among : List (List ℕ) → List ℕ → Bool
+is_among names name = is_some (place_in names name)
+
+-- an expression may use the name
+abbrev pub is_in_scope : Scope → List ℕ → Bool
+is_in_scope scope name = is_among scope.sensors name || is_among scope.cells name || is_among scope.lets name
+
+abbrev pub begins_with_assign : List Token → Bool
+begins_with_assign (token.Assign ∷ rest) = true
+begins_with_assign _ = false
+
+-- the role of a name before these tokens
+abbrev pub role_before : Seen → List Token → Role
+role_before seen rest = if seen.behind_let then NewLet else if begins_with_assign rest then SetCell else Operand
+
+-- what is wrong with a name in its role: a new let has a new name, and a cell is set once
+abbrev pub fault_in : Seen → Role → List ℕ → Option NameFault
+fault_in seen NewLet name = if is_in_scope seen.scope name then Some IsBadTarget else None
+fault_in seen SetCell name = if is_among seen.scope.cells name && not (is_among seen.set name) then None else Some IsBadTarget
+fault_in seen Operand name = if is_in_scope seen.scope name then None else Some IsUnknown
+
+-- behind a name
+abbrev pub seen_behind_name : Seen → Role → List ℕ → Seen
+seen_behind_name seen NewLet name = record seen { begun = name ∷ []; behind_let = false }
+seen_behind_name seen SetCell name = record seen { set = seen.set ++ name ∷ []; behind_let = false }
+seen_behind_name seen Operand name = record seen { behind_let = false }
+
+-- with the let that was begun in scope
+abbrev pub scope_at_end : Seen → Scope
+scope_at_end seen = scope_of seen.scope.sensors seen.scope.cells (seen.scope.lets ++ seen.begun)
+
+-- behind another token
+abbrev pub seen_behind : Seen → Token → Seen
+seen_behind seen token.Let = record seen { behind_let = true }
+seen_behind seen token.Semicolon = record seen { scope = scope_at_end seen; begun = []; behind_let = false }
+seen_behind seen _ = record seen { behind_let = false }
+
+-- the first name that is wrong, with how many tokens are left there
+abbrev pub first_fault : Seen → List Token → Option (NameFault × ℕ)
+first_fault seen [] = None
+first_fault seen (first ∷ rest) =
+    choose (word_of first) (first_fault (seen_behind seen first) rest)
+    (λ name.
+    choose (fault_in seen (role_before seen rest) name) (first_fault (seen_behind_name seen (role_before seen rest) name) rest)
+    (λ fault. Some (fault, suc (length rest))))
+
+abbrev pub nothing_seen : List (List ℕ) → List (List ℕ) → Seen
+nothing_seen sensors cells = record { scope = scope_of sensors cells []; begun = []; set = []; behind_let = false }
+
+-- the first wrong name of an expression or a body over these sensors and cells
+unfoldable pub name_fault : List (List ℕ) → List (List ℕ) → List Token → Option (NameFault × ℕ)
+name_fault sensors cells tokens = first_fault (nothing_seen sensors cells) tokens
