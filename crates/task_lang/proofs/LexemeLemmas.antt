@@ -18,7 +18,7 @@ use Rattle.task_lang.specs.declared.token.Token.TheVariants.{Bad}
 use Rattle.task_lang.specs.Tokens.{number_of, number_or_word, operators, reserved, written, token_or, token_of}
 
 -- digits are the numerals that std reads
-digits_are_numerals : IsNumeralModel (λ ds. list_all is_ascii_digit ds ≡ true) (digits_value 10)
+pub digits_are_numerals : IsNumeralModel (λ ds. list_all is_ascii_digit ds ≡ true) (digits_value 10)
 digits_are_numerals = numerals_by_value _ (search rules)
 
 -- what a reading of digits answers

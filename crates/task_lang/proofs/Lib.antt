@@ -1,6 +1,5 @@
 mod TokenLemmas
 mod LexemeLemmas
-mod GrammarLemmas
 mod ReadingLaws
 mod Combining
 mod Chains
@@ -14,5 +13,40 @@ mod StatementLemmas
 mod AnswerLemmas
 mod PlaceLemmas
 mod TextLemmas
+pub mod AnswerLaws
 mod ScopeLemmas
 mod ReaderSteps
+mod PrintingSteps
+mod NamingLemmas
+mod PrintingSize
+mod PlacingLemmas
+mod Spelling
+mod SpelledLeaves
+mod TokenSizes
+mod Fits
+mod TreeFits
+mod SignSizes
+mod LeafFits
+mod DerivedFits
+mod RowTexts
+mod SetNames
+mod StatementFits
+mod PrintedTexts
+mod LevelRules
+mod TreeLemmas
+mod PrintedForms
+mod KeptLeaves
+mod PrintedExpressions
+mod PrintedNames
+mod TokensWithin
+mod WrittenStatements
+mod Scanning
+mod ScannedStatements
+mod NameScans
+mod TargetLemmas
+mod RightStatements
+mod SortedRows
+mod TokensReadBack
+mod TextReadBack
+pub mod PrintingLaws
+mod RowSteps

@@ -1,6 +1,7 @@
 -- Each token of a text begins at a byte of it.
 use Rattle.std.proofs.Common.{◌≡◌, ℕ, zero, suc, ◌<◌, ◌≤◌, Bool, true, false, cond, List, [], ◌∷◌, map, length, refl, ap, arith}
 use Rattle.std.specs.Prelude.{slice_index_or}
+use Rattle.task_lang.specs.declared.token.Token.{Token}
 use Rattle.task_lang.specs.Tokens.{is_blank, tail_of, lexemes_behind, lefts_behind, token_of, tokens_of, lefts_of}
 use Rattle.task_lang.specs.Readings.{TokensStandIn}
 
@@ -50,3 +51,26 @@ tokens_stand_in text =
       within = lefts_behind-within 0 text;
       some = λ n less. lefts_behind-some 0 text n (omega (arith, lefts_behind-length 0 text));
     }
+
+-- each token has a byte
+lexemes_behind-length : (n : ℕ) (text : List ℕ) → length (map token_of (lexemes_behind n text)) ≤ length text
+lexemes_behind-length n [] = omega arith
+lexemes_behind-length (suc n) (b ∷ rest) = omega (arith, lexemes_behind-length n rest)
+lexemes_behind-length zero (b ∷ rest) = by_blank (lexemes_behind-length 0 rest) (lexemes_behind-length (length (tail_of b rest)) rest) (is_blank b)
+  where
+    by_blank : length (map token_of (lexemes_behind 0 rest)) ≤ length rest → length (map token_of (lexemes_behind (length (tail_of b rest)) rest)) ≤ length rest → (blank : Bool)
+        → length (map token_of (cond blank (lexemes_behind 0 rest) ((b ∷ tail_of b rest) ∷ lexemes_behind (length (tail_of b rest)) rest))) ≤ length (b ∷ rest)
+    by_blank behind_blank behind_token true = omega arith
+    by_blank behind_blank behind_token false = omega arith
+
+pub tokens_of-length : (text : List ℕ) → length (tokens_of text) ≤ length text
+unfolding tokens_of
+tokens_of-length text = lexemes_behind-length 0 text
+
+-- the byte of a token is in the text
+pub left_within : (text : List ℕ) (i : ℕ) → slice_index_or (lefts_of text) i 0 ≤ length text
+unfolding lefts_of
+left_within text i = lefts_behind-within 0 text i
+
+pub tokens_few : (text : List ℕ) (tokens : List Token) → tokens ≡ tokens_of text → length text ≤ 16384 → length tokens ≤ 65536
+tokens_few text tokens cut short = omega (arith, tokens_of-length text, ap length cut)

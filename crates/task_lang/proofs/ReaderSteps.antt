@@ -191,9 +191,14 @@ pub at_level : {X : Type 0} (view : X → Expr × List Token) (result : Result X
 at_level view result at scope n read tokens is = subst (λ r. Follows view result (r tokens)) is
 
 -- what follows the reader of whole lists is right by the grammar
-pub expr_read : (scope : Scope) (n : ℕ) (tokens : List Token) (result : Result Expr ReadFault)
+scope_read : (scope : Scope) (n : ℕ) (tokens : List Token) (result : Result Expr ReadFault)
     → Follows (λ (tree : Expr). tree) result (whole (level_reader level.Or scope n) tokens) → IsRead (expr_rule scope (enclosed_by scope n)) tokens result
 unfolding level_reader
-expr_read scope n tokens (Ok tree) is = subst (Answers (expr_rule scope (enclosed_by scope n)) tokens) is (expressions_answer n scope tokens)
-expr_read scope n tokens (Err fault.Memory) is = tt
-expr_read scope n tokens (Err (fault.At left)) is = subst (Answers (expr_rule scope (enclosed_by scope n)) tokens) is (expressions_answer n scope tokens)
+scope_read scope n tokens (Ok tree) is = subst (Answers (expr_rule scope (enclosed_by scope n)) tokens) is (expressions_answer n scope tokens)
+scope_read scope n tokens (Err fault.Memory) is = tt
+scope_read scope n tokens (Err (fault.At left)) is = subst (Answers (expr_rule scope (enclosed_by scope n)) tokens) is (expressions_answer n scope tokens)
+
+pub expr_read : (names scope : Scope) (n : ℕ) (tokens : List Token) (result : Result Expr ReadFault) → names ≡ scope
+    → Follows (λ (tree : Expr). tree) result (whole (level_reader level.Or names n) tokens) → IsRead (expr_rule scope (enclosed_by scope n)) tokens result
+expr_read names scope n tokens result same is =
+    scope_read scope n tokens result (subst (λ scope. Follows (λ (tree : Expr). tree) result (whole (level_reader level.Or scope n) tokens)) same is)

@@ -1,6 +1,4 @@
 pub mod Tokens
-pub mod Grammar
-pub mod Verdicts
 pub mod Words
 pub mod Rules
 pub mod Reader
@@ -11,4 +9,9 @@ pub mod Answers
 pub mod TextReaders
 pub mod Scopes
 pub mod Levels
+pub mod Rows
 pub mod Readings
+pub mod Printing
+pub mod PrintedTokens
+pub mod RightNames
+pub mod ReadBack

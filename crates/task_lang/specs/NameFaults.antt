@@ -3,22 +3,13 @@
 use Rattle.std.specs.Prelude.{ℕ, suc, Bool, true, false, not, ◌&&◌, ◌||◌, List, [], ◌∷◌, ◌++◌, length, Option, Some, None, is_some, if◌then◌else◌}
 use Rattle.task_lang.specs.declared.token.Token.{Token}
 use Rattle.task_lang.specs.declared.token.Token.TheVariants as token
+pub use Rattle.task_lang.specs.declared.scan.NameFault.{NameFault}
+pub use Rattle.task_lang.specs.declared.scan.NameFault.TheVariants.{IsUnknown, IsBadTarget}
+pub use Rattle.task_lang.specs.declared.scan.Role.{Role}
+pub use Rattle.task_lang.specs.declared.scan.Role.TheVariants.{NewLet, SetCell, Operand}
 use Rattle.task_lang.specs.Words.{Scope, place_in}
 use Rattle.task_lang.specs.Reader.{choose}
 use Rattle.task_lang.specs.Statements.{scope_of, word_of}
-
--- what can be wrong with a name
-pub data NameFault : Type 0 where
-  -- an expression uses what is no sensor, no cell and no let of an earlier statement
-  IsUnknown : NameFault
-  -- a statement names what it may not
-  IsBadTarget : NameFault
-
--- what a name stands for
-pub data Role : Type 0 where
-  NewLet : Role
-  SetCell : Role
-  Operand : Role
 
 -- what the tokens before have named
 pub record Seen : Type 0 where
@@ -30,6 +21,11 @@ pub record Seen : Type 0 where
   pub set : List (List ℕ)
   -- `let` stands right before
   pub behind_let : Bool
+
+-- the let that was begun, if one was
+abbrev pub names_begun : Option (List ℕ) → List (List ℕ)
+names_begun None = []
+names_begun (Some name) = name ∷ []
 
 abbrev pub is_among : List (List ℕ) → List ℕ → Bool
 is_among names name = is_some (place_in names name)

@@ -1,6 +1,8 @@
 -- What the readers of the task language answer, for all tokens.
 -- This project's own.
 use Rattle.std.specs.Prelude.{ℕ, ◌<◌, ◌≤◌, ◌≡◌, ◌⊎◌, List, length, slice_index_or, Result, Err}
+use Rattle.rcp_model.specs.declared.expr.Expr.{Expr}
+use Rattle.rcp_model.specs.declared.task.Task.{Task}
 use Rattle.task_lang.specs.declared.fault.LangFault.{LangFault}
 use Rattle.task_lang.specs.declared.fault.LangFault.TheVariants.{Memory}
 use Rattle.task_lang.specs.declared.token.Token.{Token}
@@ -57,3 +59,17 @@ abbrev pub NamesMoveNoBodyFault : Type 0
 NamesMoveNoBodyFault =
     (sensors cells other_sensors other_cells : List (List ℕ)) (tokens : List Token) (n : ℕ)
     → IsFaultAt (IsBody sensors cells) tokens n → IsFaultAt (IsBody other_sensors other_cells) tokens n
+
+-- each right answer is the reader's, unless memory was wanting
+abbrev pub IsReadersAnswer : {X : Type 0} → Result X LangFault → Result X LangFault → Type 0
+IsReadersAnswer said answer = (answer ≡ Err Memory) ⊎ (answer ≡ said)
+
+abbrev pub ExpressionAnswersAreRead : Type 0
+ExpressionAnswersAreRead =
+    (sensors cells : List (List ℕ)) (text : List ℕ) (answer : Result Expr LangFault) → IsExprAnswer sensors cells text answer
+    → IsReadersAnswer (read_expr sensors cells text) answer
+
+abbrev pub BodyAnswersAreRead : Type 0
+BodyAnswersAreRead =
+    (sensors cells : List (List ℕ)) (name text : List ℕ) (answer : Result Task LangFault) → IsBodyAnswer sensors cells name text answer
+    → IsReadersAnswer (read_body sensors cells name text) answer

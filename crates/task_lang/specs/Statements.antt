@@ -1,6 +1,6 @@
 -- The grammar of statements and bodies, and a reader for it.
 -- This project's own.
-use Rattle.std.specs.Prelude.{ℕ, zero, suc, ◌≡◌, List, [], ◌∷◌, ◌++◌, length, unwrap_or, Option, Some, None, Ok, Err}
+use Rattle.std.specs.Prelude.{ℕ, zero, suc, ◌≡◌, List, [], ◌∷◌, ◌++◌, length, unwrap_or, Option, Some, None, Result, Ok, Err}
 use Rattle.rcp_model.specs.declared.expr.Expr.{Expr}
 use Rattle.rcp_model.specs.declared.task.LetRow.{LetRow}
 use Rattle.rcp_model.specs.declared.task.SetRow.{SetRow}
@@ -9,14 +9,11 @@ use Rattle.task_lang.specs.declared.token.Token.{Token}
 use Rattle.task_lang.specs.declared.token.Token.TheVariants as token
 use Rattle.task_lang.specs.declared.token.Mark.{Mark}
 use Rattle.task_lang.specs.declared.token.Mark.TheVariants as mark
+pub use Rattle.task_lang.specs.declared.statements.Statement.{Statement}
+pub use Rattle.task_lang.specs.declared.statements.Statement.TheVariants.{Let, Set}
 use Rattle.task_lang.specs.Words.{Scope, place_in, stand_in, is_let, Part, Sign, Inside}
 use Rattle.task_lang.specs.Rules.{Prefixed, Sequence, expr_rule, enclosed_by}
-use Rattle.task_lang.specs.Reader.{◌>>=◌, choose, Reader, bound, made, prefixed, sequence, expr_reader, readers}
-
--- a name for a value, or a cell's value
-pub data Statement : Type 0 where
-  Let : List ℕ → Expr → Statement
-  Set : List ℕ → Expr → Statement
+use Rattle.task_lang.specs.Reader.{◌>>=◌, choose, Reader, bound, made, prefixed, sequence, expr_reader, readers, whole}
 
 -- what stands behind a statement's name
 abbrev pub parts_behind : Mark → List Part
@@ -92,6 +89,11 @@ named_reader mark make read [] = Err 0
 named_reader mark make read (token ∷ rest) =
     choose (word_of token) (Err (suc (length rest))) (λ name. sequence read (parts_behind mark) rest >>= made (λ trees. make name (only trees)))
 
+-- the statement that has this mark behind its name
+abbrev pub statement_of : Mark → List ℕ → Expr → Statement
+statement_of mark.Equal name value = Let name value
+statement_of _ name value = Set name value
+
 abbrev pub statement_reader : Reader Expr → Reader Statement
 statement_reader read = prefixed is_let (λ statement. statement) (Some (named_reader mark.Equal Let read)) (named_reader mark.Assign Set read)
 
@@ -112,3 +114,7 @@ many leave read left tokens = many_below leave read (suc (length tokens)) left t
 abbrev pub statements_reader : ℕ → List (List ℕ) → List (List ℕ) → Reader (List Statement)
 statements_reader n sensors cells =
     many lets_behind (λ lets. let scope = scope_of sensors cells lets in statement_reader (expr_reader scope (readers scope n))) []
+
+-- the task of this name that all of the tokens write
+unfoldable pub read_task : ℕ → List (List ℕ) → List (List ℕ) → List ℕ → List Token → Result Task ℕ
+read_task n sensors cells name tokens = whole (statements_reader n sensors cells) tokens >>= λ statements. Ok (task_with cells name statements)

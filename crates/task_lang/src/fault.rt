@@ -1,18 +1,24 @@
 //! Why a text of the task language was not read.
 //! This project's own.
 use rcp_base::Memory;
-use std::alloc::AllocError;
+use thiserror::Error;
 
-/// Why a text was not read, with the place of a byte, counted from 0.
-#[derive(Clone, Copy, Debug, PartialEq, Eq)]
+/// Why a text was not read. A byte is counted from 0, and is that of the first fault; names are tested only in a text that is in the grammar.
+#[derive(Clone, Copy, Debug, PartialEq, Eq, Error)]
 pub enum LangFault {
-    /// The text is none of the language's. For now the byte is 0, wherever the text goes wrong.
+    /// The text is not in the grammar. The byte is the first of the first token with which no text of the grammar goes on,
+    /// or the text's length where the whole text is only the front of one.
+    #[error("a fault of syntax at byte {byte}")]
     Syntax { byte: u32 },
-    /// A name is neither a sensor nor a cell. For now such a text is `Syntax`.
+    /// An expression uses a name that is no sensor, no cell and no `let` of an earlier statement. The byte is the name's first.
+    #[error("an unknown name at byte {byte}")]
     UnknownName { byte: u32 },
-    /// A statement gives a value to what is no cell. For now such a text is `Syntax`.
+    /// A statement gives a value to what is no cell or was set before, or names a `let` as a sensor, a cell or an earlier `let`.
+    /// The byte is the name's first.
+    #[error("a name that may not be given a value at byte {byte}")]
     BadTarget { byte: u32 },
     /// Memory was wanting, which says nothing of the text.
+    #[error("memory was wanting")]
     Memory,
 }
 
@@ -23,17 +29,6 @@ impl From<Memory> for LangFault {
     ghost from_gives = { λ _ fault. fault ≡ Memory };
 
     fn from(_: Memory) -> LangFault {
-        LangFault::Memory
-    }
-}
-
-impl From<AllocError> for LangFault {
-    ghost use Rattle.std.specs.Prelude.{◌≡◌};
-    ghost use Rattle.task_lang.specs.declared.fault.LangFault.TheVariants.{Memory};
-
-    ghost from_gives = { λ _ fault. fault ≡ Memory };
-
-    fn from(_: AllocError) -> LangFault {
         LangFault::Memory
     }
 }

@@ -1,7 +1,9 @@
 //! What the readers of the task language answer, for all tokens.
 //! This project's own.
 ghost use Rattle.std.specs.Prelude.{ℕ, List};
-ghost use Rattle.task_lang.specs.Readings.{ExpressionsAreRead, BodiesAreRead, ExpressionsHaveOneAnswer, BodiesHaveOneAnswer, TokensStandIn, ExpressionTextsAreRead, BodyTextsAreRead, NamesMoveNoExpressionFault, NamesMoveNoBodyFault};
+ghost use Rattle.task_lang.specs.Readings.{ExpressionsAreRead, BodiesAreRead, ExpressionsHaveOneAnswer, BodiesHaveOneAnswer, TokensStandIn, ExpressionTextsAreRead, BodyTextsAreRead, ExpressionAnswersAreRead, BodyAnswersAreRead, NamesMoveNoExpressionFault, NamesMoveNoBodyFault};
+ghost use Rattle.task_lang.specs.ReadBack.{PrintedTasksReadBack};
+ghost use Rattle.task_lang.specs.RightNames.{ExpressionNamesAreScanned, BodyNamesAreScanned, KnownNamesStand, ExpressionsHaveNoTargets};
 
 /// An expression has one tree at most, and where it has none the fault is at the first token with which none goes on.
 pub fn expressions_are_read()
@@ -30,8 +32,28 @@ pub fn texts_are_read()
     ensures bodies { BodyTextsAreRead }
 {}
 
+/// A right answer to a text is that of the reader of texts, unless memory was wanting.
+pub fn right_answers_are_read()
+    ensures expressions { ExpressionAnswersAreRead }
+    ensures bodies { BodyAnswersAreRead }
+{}
+
 /// Where tokens go wrong does not hang on the names of sensors, cells and lets.
 pub fn names_move_no_fault()
     ensures expressions { NamesMoveNoExpressionFault }
     ensures bodies { NamesMoveNoBodyFault }
+{}
+
+/// What is printed of a task that was read is at most four times as long, and is read again as the same task.
+pub fn printed_task_reads_back()
+    ensures { PrintedTasksReadBack }
+{}
+
+/// The scan of names finds nothing exactly where the grammar has each name in scope where it is used, and each
+/// statement names what it may. A name in scope is the number of its sensor, cell or let. An expression names no target.
+pub fn names_are_scanned()
+    ensures expressions { ExpressionNamesAreScanned }
+    ensures bodies { BodyNamesAreScanned }
+    ensures known { KnownNamesStand }
+    ensures targets { ExpressionsHaveNoTargets }
 {}

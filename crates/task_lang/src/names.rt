@@ -10,6 +10,7 @@ use rcp_model::Expr;
 use std::marker::Model;
 
 /// The names that an expression may use, each list at most 65536 long. Contracts see them as their scope.
+#[derive(Drop)]
 pub struct Names<'a> {
     sensors: &'a [Name],
     cells: &'a [Name],
@@ -57,8 +58,8 @@ impl<'a> Names<'a> {
     }
 }
 
-// A place in a list of this size fits 16 bits.
-fn place_in(name: &Name, names: &[Name]) -> Option<u16>
+/// The first place of a name in a list of at most 65536.
+pub fn place_in(name: &Name, names: &[Name]) -> Option<u16>
     requires { length names.now ≤ 65536 }
     ensures { result ≡ place_in names.now name.now }
 {
@@ -68,7 +69,8 @@ fn place_in(name: &Name, names: &[Name]) -> Option<u16>
     }
 }
 
-fn position_of(name: &Name, names: &[Name]) -> Option<usize>
+/// The first place of a name.
+pub fn position_of(name: &Name, names: &[Name]) -> Option<usize>
     ensures place { result ≡ place_in names.now name.now }
     ensures within { IfSome result (λ place. place < length names.now) }
 {

@@ -1,23 +1,24 @@
-//! From tokens to expressions and tasks.
+//! From texts to expressions and tasks.
 //! This project's own.
-ghost use Rattle.std.specs.Prelude.{◌≡◌, ◌<◌, ◌≤◌, length, option_map, IfSome};
-ghost use Rattle.task_lang.specs.Grammar as spec;
-ghost use Rattle.task_lang.specs.Grammar.{expr_verdict, body_verdict, verdict_on};
-ghost use Rattle.task_lang.specs.Verdicts.{Gives};
+ghost use Rattle.std.specs.Prelude.{◌≡◌, ◌≤◌, length, slice_index_or};
+ghost use Rattle.task_lang.specs.Answers.{IsExprAnswer, IsBodyAnswer};
+ghost use Rattle.task_lang.specs.TextReaders as spec;
+ghost use Rattle.task_lang.specs.Tokens.{tokens_of, lefts_of};
 
-use crate::LangFault;
-use crate::lexer::tokens;
-use crate::token::Token;
-use rcp_base::{List, Name};
-use rcp_model::{Expr, Op, SetRow, Task};
-use sqlite_items::Boxed;
+use crate::reader::{ReadFault, expr_of};
+use crate::scan::{NameFault, name_fault};
+use crate::statements::task_of;
+use crate::{LangFault, lexer};
+use rcp_base::Name;
+use rcp_model::{Expr, Task};
 use std::alloc::Global;
 
-// No part of the grammar has the text.
-const NOT_READ: LangFault = LangFault::Syntax { byte: 0 };
-
-/// The task of this name whose body is `cell := e;`, where `e` is as `parse_expr` reads it.
-#[tactic(auto, unfolding(crate::specs::Grammar::body_verdict))]
+/// The task of this name whose body is the text: one or more statements, each of which may use the lets before it.
+/// The text has at most 16,384 bytes, and there are at most 64 sensors and 64 cells. A name in both lists is the sensor's.
+///
+/// # Errors
+/// `Syntax` where the text is not in the grammar, else `UnknownName` or `BadTarget` at the first name that is wrong, each with its byte.
+/// `Memory` where memory was wanting.
 pub fn parse_body(
     alloc: Global,
     name: Name,
@@ -25,172 +26,94 @@ pub fn parse_body(
     sensors: &[Name],
     cells: &[Name],
 ) -> Result<Task, LangFault>
+    requires text { length text.now ≤ 16384 }
     requires sensors { length sensors.now ≤ 64 }
     requires cells { length cells.now ≤ 64 }
-    ensures { Gives (body_verdict sensors.now cells.now name text.now) result }
+    ensures { IsBodyAnswer sensors.now cells.now name text.now result }
 {
-    let (list, _) = tokens(alloc, text.as_bytes())?;
-    let row = row_of(alloc, list.as_slice(), sensors, cells)?;
-    let mut sets = List::new(alloc);
-    sets.push(row)?;
-    Ok(Task {
-        name,
-        lets: List::new(alloc),
-        sets,
-    })
+    let (list, lefts) = lexer::tokens(alloc, text.as_bytes())?;
+    let tokens = list.as_slice();
+    let task = match task_of(alloc, name, tokens, sensors, cells) {
+        Ok(task) => task,
+        Err(fault) => return Err(fault_of_syntax(text, lefts.as_slice(), fault)),
+    };
+    match name_fault(alloc, sensors, cells, tokens)? {
+        None => Ok(task),
+        Some((fault, left)) => Err(fault_of_name(text, lefts.as_slice(), fault, left)),
+    }
 }
 
-/// Numbers and names, joined by `+` and `-` and grouped to the left. Sensors and cells are numbered
-/// as in the two lists, and a name in both is the sensor's.
-#[tactic(auto, unfolding(crate::specs::Grammar::expr_verdict))]
+/// The expression that the text is. The text has at most 16,384 bytes, and there are at most 64 sensors and 64 cells.
+/// A name in both lists is the sensor's.
+///
+/// # Errors
+/// `Syntax` where the text is not in the grammar, else `UnknownName` at the first name that is neither a sensor nor a cell, each with its byte.
+/// `Memory` where memory was wanting.
 pub fn parse_expr(
     alloc: Global,
     text: &str,
     sensors: &[Name],
     cells: &[Name],
 ) -> Result<Expr, LangFault>
+    requires text { length text.now ≤ 16384 }
     requires sensors { length sensors.now ≤ 64 }
     requires cells { length cells.now ≤ 64 }
-    ensures { Gives (expr_verdict sensors.now cells.now text.now) result }
+    ensures { IsExprAnswer sensors.now cells.now text.now result }
 {
-    let (list, _) = tokens(alloc, text.as_bytes())?;
-    sum_of(alloc, list.as_slice(), sensors, cells)
-}
-
-// The one statement of a body.
-fn row_of(
-    alloc: Global,
-    tokens: &[Token],
-    sensors: &[Name],
-    cells: &[Name],
-) -> Result<SetRow, LangFault>
-    requires sensors { length sensors.now ≤ 64 }
-    requires cells { length cells.now ≤ 64 }
-    ensures { Gives (verdict_on (spec.row_of sensors.now cells.now tokens.now)) result }
-{
-    let [Token::Word(name), Token::Assign, rest @ ..] = tokens else {
-        return Err(NOT_READ);
+    let (list, lefts) = lexer::tokens(alloc, text.as_bytes())?;
+    let tokens = list.as_slice();
+    let tree = match expr_of(alloc, tokens, sensors, cells) {
+        Ok(tree) => tree,
+        Err(fault) => return Err(fault_of_syntax(text, lefts.as_slice(), fault)),
     };
-    let Some(cell) = place_of(name, cells) else {
-        return Err(NOT_READ);
-    };
-    let Some(tokens) = before_semicolon(rest) else {
-        return Err(NOT_READ);
-    };
-    let value = sum_of(alloc, tokens, sensors, cells)?;
-    Ok(SetRow { cell, value })
-}
-
-// The tokens before a last semicolon.
-#[tactic(auto, using(crate::proofs::GrammarLemmas::before_semicolon_ended, crate::proofs::GrammarLemmas::before_semicolon_open))]
-fn before_semicolon(tokens: &[Token]) -> Option<&[Token]>
-    ensures { option_map (λ front. front.now) result ≡ spec.before_semicolon tokens.now }
-{
-    let (last, front) = tokens.split_last()?;
-    if is_semicolon(last) {
-        Some(front)
-    } else {
-        None
+    match name_fault(alloc, sensors, cells, tokens)? {
+        None => Ok(tree),
+        Some((fault, left)) => Err(fault_of_name(text, lefts.as_slice(), fault, left)),
     }
 }
 
-fn is_semicolon(token: &Token) -> bool
-    ensures { result ≡ spec.is_semicolon token.now }
+fn fault_of_syntax(text: &str, lefts: &[usize], fault: ReadFault) -> LangFault
+    requires text { length text.now ≤ 16384 }
+    requires lefts { lefts.now ≡ lefts_of text.now }
+    ensures { result ≡ spec.fault_of_syntax text.now fault }
 {
-    matches!(token, Token::Semicolon)
-}
-
-fn sum_of(
-    alloc: Global,
-    tokens: &[Token],
-    sensors: &[Name],
-    cells: &[Name],
-) -> Result<Expr, LangFault>
-    requires sensors { length sensors.now ≤ 64 }
-    requires cells { length cells.now ≤ 64 }
-    ensures { Gives (verdict_on (spec.sum_of sensors.now cells.now tokens.now)) result }
-{
-    let Some((first, rest)) = tokens.split_first() else {
-        return Err(NOT_READ);
-    };
-    let Some(first) = operand_of(first, sensors, cells) else {
-        return Err(NOT_READ);
-    };
-    sum_from(alloc, first, rest, sensors, cells)
-}
-
-// The sum of an expression and the operators and operands behind it.
-fn sum_from(
-    alloc: Global,
-    first: Expr,
-    tokens: &[Token],
-    sensors: &[Name],
-    cells: &[Name],
-) -> Result<Expr, LangFault>
-    requires sensors { length sensors.now ≤ 64 }
-    requires cells { length cells.now ≤ 64 }
-    ensures { Gives (verdict_on (spec.sum_from sensors.now cells.now first tokens.now)) result }
-{
-    let mut sum = first;
-    let mut rest = tokens;
-    while let Some((operator, after)) = rest.split_first() {
-        let Some(operator) = operator_of(operator) else {
-            return Err(NOT_READ);
-        };
-        let Some((operand, behind)) = after.split_first() else {
-            return Err(NOT_READ);
-        };
-        let Some(operand) = operand_of(operand, sensors, cells) else {
-            return Err(NOT_READ);
-        };
-        let left = Boxed::new(alloc, sum)?;
-        let right = Boxed::new(alloc, operand)?;
-        sum = Expr::Two(operator, left, right);
-        rest = behind;
-    }
-    Ok(sum)
-}
-
-fn operator_of(token: &Token) -> Option<Op>
-    ensures { result ≡ spec.operator_of token.now }
-{
-    match token {
-        Token::Plus => Some(Op::Add),
-        Token::Minus => Some(Op::Sub),
-        _ => None,
-    }
-}
-
-fn operand_of(token: &Token, sensors: &[Name], cells: &[Name]) -> Option<Expr>
-    requires sensors { length sensors.now ≤ 64 }
-    requires cells { length cells.now ≤ 64 }
-    ensures { result ≡ spec.operand_of sensors.now cells.now token.now }
-{
-    match token {
-        Token::Number(number) => Some(Expr::Number(*number)),
-        Token::Word(name) => match (place_of(name, sensors), place_of(name, cells)) {
-            (Some(sensor), _) => Some(Expr::Sensor(sensor)),
-            (None, Some(cell)) => Some(Expr::Cell(cell)),
-            (None, None) => None,
+    match fault {
+        ReadFault::Memory => LangFault::Memory,
+        ReadFault::At { left } => LangFault::Syntax {
+            byte: byte_at(text, lefts, left),
         },
-        _ => None,
     }
 }
 
-// A place in a list of this size fits 16 bits.
-fn place_of(name: &Name, names: &[Name]) -> Option<u16>
-    requires { length names.now ≤ 64 }
-    ensures { result ≡ spec.place_of name.now names.now }
+fn fault_of_name(text: &str, lefts: &[usize], fault: NameFault, left: usize) -> LangFault
+    requires text { length text.now ≤ 16384 }
+    requires lefts { lefts.now ≡ lefts_of text.now }
+    ensures { result ≡ spec.fault_of_name text.now fault left }
 {
-    match position_of(name, names) {
-        Some(place) => Some(place as u16),
-        None => None,
+    let byte = byte_at(text, lefts, left);
+    match fault {
+        NameFault::IsUnknown => LangFault::UnknownName { byte },
+        NameFault::IsBadTarget => LangFault::BadTarget { byte },
     }
 }
 
-fn position_of(name: &Name, names: &[Name]) -> Option<usize>
-    ensures place { result ≡ spec.place_of name.now names.now }
-    ensures within { IfSome result (λ place. place < length names.now) }
+// The byte of the token where so many are left, or the text's length.
+#[tactic(auto, using(crate::proofs::PlaceLemmas::left_within, crate::proofs::TextLemmas::byte_found))]
+fn byte_at(text: &str, lefts: &[usize], left: usize) -> u32
+    requires text { length text.now ≤ 16384 }
+    requires lefts { lefts.now ≡ lefts_of text.now }
+    ensures { result ≡ spec.byte_at text.now left }
 {
-    names.iter().position(|known| name.bytes() == known.bytes())
+    let bytes = left_at(lefts, lefts.len().saturating_sub(left));
+    (text.len() - bytes) as u32
+}
+
+// How many bytes are left at a token, or none past the last one.
+fn left_at(lefts: &[usize], place: usize) -> usize
+    ensures { result ≡ slice_index_or lefts.now place 0 }
+{
+    match lefts.get(place) {
+        Some(bytes) => *bytes,
+        None => 0,
+    }
 }

@@ -1,14 +1,16 @@
 //! From tokens to expressions: each level of the grammar by its reader.
 //! This project's own.
-ghost use Rattle.std.specs.Prelude.{◌≡◌, [], ◌∷◌, length, MatchOption};
+ghost use Rattle.std.specs.Prelude.{◌≡◌, ◌≤◌, [], ◌∷◌, length, MatchOption};
 ghost use Rattle.task_lang.specs.Reader as spec;
 ghost use Rattle.task_lang.specs.declared.reader.Level.TheVariants as at;
 ghost use Rattle.task_lang.specs.Rules.{IsExpr};
+ghost use Rattle.task_lang.specs.Statements.{scope_of};
 ghost use Rattle.task_lang.specs.Levels.{IsRead, Follows, IsChain, HasPrefix, level_reader, inner_reader, below, operator_at, is_prefix, with_prefix};
 ghost use Rattle.task_lang.specs.Words as words;
 
 use crate::names::Names;
 use crate::token::{Form, Mark, Token};
+use rcp_base::{Memory, Name};
 use rcp_model::{Expr, Op};
 use sqlite_items::Boxed;
 use std::alloc::{AllocError, Global};
@@ -32,6 +34,17 @@ impl From<AllocError> for ReadFault {
     }
 }
 
+impl From<Memory> for ReadFault {
+    ghost use Rattle.std.specs.Prelude.{◌≡◌};
+    ghost use Rattle.task_lang.specs.declared.reader.ReadFault.TheVariants.{Memory};
+
+    ghost from_gives = { λ _ fault. fault ≡ Memory };
+
+    fn from(_: Memory) -> ReadFault {
+        ReadFault::Memory
+    }
+}
+
 /// The levels of the grammar, from the loosest.
 #[derive(Clone, Copy, Debug)]
 pub enum Level {
@@ -49,7 +62,7 @@ pub enum Level {
 #[cycle(reader)]
 pub fn expr_at<'a>(
     alloc: Global,
-    names: &'a Names<'a>,
+    names: &Names,
     level: Level,
     depth: u8,
     tokens: &'a [Token],
@@ -72,7 +85,7 @@ pub fn expr_at<'a>(
 #[cycle(reader)]
 fn chained<'a>(
     alloc: Global,
-    names: &'a Names<'a>,
+    names: &Names,
     level: Level,
     depth: u8,
     tokens: &'a [Token],
@@ -88,7 +101,7 @@ fn chained<'a>(
 #[cycle(reader)]
 fn onward<'a>(
     alloc: Global,
-    names: &'a Names<'a>,
+    names: &Names,
     level: Level,
     depth: u8,
     first: Expr,
@@ -116,7 +129,7 @@ fn onward<'a>(
 #[cycle(reader)]
 fn compared<'a>(
     alloc: Global,
-    names: &'a Names<'a>,
+    names: &Names,
     depth: u8,
     tokens: &'a [Token],
 ) -> Result<(Expr, &'a [Token]), ReadFault>
@@ -139,7 +152,7 @@ fn compared<'a>(
 #[cycle(reader)]
 fn prefixed<'a>(
     alloc: Global,
-    names: &'a Names<'a>,
+    names: &Names,
     level: Level,
     depth: u8,
     tokens: &'a [Token],
@@ -164,7 +177,7 @@ fn prefixed<'a>(
 #[cycle(reader)]
 fn prim<'a>(
     alloc: Global,
-    names: &'a Names<'a>,
+    names: &Names,
     depth: u8,
     tokens: &'a [Token],
 ) -> Result<(Expr, &'a [Token]), ReadFault>
@@ -189,7 +202,7 @@ fn prim<'a>(
 #[cycle(reader)]
 fn inside<'a>(
     alloc: Global,
-    names: &'a Names<'a>,
+    names: &Names,
     form: Form,
     depth: u8,
     tokens: &'a [Token],
@@ -231,7 +244,7 @@ fn inside<'a>(
 #[cycle(reader)]
 fn pair<'a>(
     alloc: Global,
-    names: &'a Names<'a>,
+    names: &Names,
     depth: u8,
     tokens: &'a [Token],
 ) -> Result<(Boxed<Expr>, Boxed<Expr>, &'a [Token]), ReadFault>
@@ -250,7 +263,7 @@ fn pair<'a>(
 #[cycle(reader)]
 fn triple<'a>(
     alloc: Global,
-    names: &'a Names<'a>,
+    names: &Names,
     depth: u8,
     tokens: &'a [Token],
 ) -> Result<(Boxed<Expr>, Boxed<Expr>, Boxed<Expr>, &'a [Token]), ReadFault>
@@ -269,7 +282,7 @@ fn triple<'a>(
     Ok((a, b, c, rest))
 }
 
-fn past(mark: Mark, tokens: &[Token]) -> Result<&[Token], ReadFault>
+pub fn past(mark: Mark, tokens: &[Token]) -> Result<&[Token], ReadFault>
     ensures { Follows (λ x. x.now) result (spec.past mark tokens.now) }
 {
     let Some((token, behind)) = split_first(tokens) else {
@@ -282,8 +295,8 @@ fn past(mark: Mark, tokens: &[Token]) -> Result<&[Token], ReadFault>
     }
 }
 
-// The first token, and those behind it.
-fn split_first(tokens: &[Token]) -> Option<(&Token, &[Token])>
+/// The first token, and those behind it.
+pub fn split_first(tokens: &[Token]) -> Option<(&Token, &[Token])>
     ensures { MatchOption result (tokens.now ≡ []) (λ p. tokens.now ≡ p.0.now ∷ p.1.now) }
 {
     match tokens {
@@ -385,11 +398,19 @@ fn form_of(token: &Token) -> Option<Form>
     }
 }
 
-/// The one expression that all of the tokens write, or how many of them are left at the fault.
-pub fn expr_of(alloc: Global, names: &Names, tokens: &[Token]) -> Result<Expr, ReadFault>
-    ensures { IsRead (IsExpr names.now) tokens.now result }
+/// The one expression over these sensors and cells that all of the tokens write, or how many of them are left at the fault.
+pub fn expr_of(
+    alloc: Global,
+    tokens: &[Token],
+    sensors: &[Name],
+    cells: &[Name],
+) -> Result<Expr, ReadFault>
+    requires sensors { length sensors.now ≤ 65536 }
+    requires cells { length cells.now ≤ 65536 }
+    ensures { IsRead (IsExpr (scope_of sensors.now cells.now [])) tokens.now result }
 {
-    whole_expr(alloc, names, 64, tokens)
+    let names = Names::new(sensors, cells, &[]);
+    whole_expr(alloc, &names, 64, tokens)
 }
 
 fn whole_expr(alloc: Global, names: &Names, depth: u8, tokens: &[Token]) -> Result<Expr, ReadFault>
