@@ -6,12 +6,14 @@ use Rattle.rcp_base.specs.Files.{Files, IfTold, IsLonger, IsMissing, Rises}
 use Rattle.rcp_model.specs.declared.plan.PlanParts.{PlanParts}
 use Rattle.rcp_top.specs.declared.answer.Answer.{Answer}
 use Rattle.rcp_top.specs.declared.answer.Answer.TheVariants as answer
-use Rattle.rcp_top.specs.declared.unread.Unread.{Unread}
 use Rattle.rcp_top.specs.declared.unread.Unread.TheVariants.{Unbuilt}
+use Rattle.rcp_top.specs.declared.task_fault.TaskFault.{TaskFault}
+use Rattle.rcp_top.specs.declared.task_fault.TaskFault.TheVariants as fault
+use Rattle.rcp_top.specs.TaskFault.{of_part}
 use Rattle.rcp_top.specs.Ending.{EndsOverSeen, HasCause}
-use Rattle.rcp_top.specs.Outcome.{ideal_words, file_words, files_named, of_words, outcome_of_answer, of_frames, of_plan, unreadable, usage, journal_refused, task_refused}
+use Rattle.rcp_top.specs.Outcome.{ideal_words, file_words, files_named, of_words, outcome_of_answer, of_frames, of_plan, of_fault, unreadable, usage, journal_refused, task_refused}
 use Rattle.rcp_top.specs.Seen.{IsOfJournal, IsOfPlan, IsOfFiles}
-use Rattle.rcp_top.specs.SmallFile.{small_file, text_of, document_of, document_parts}
+use Rattle.rcp_top.specs.SmallFile.{small_file, document_in, document_parts}
 use Rattle.rcp_top.specs.SmallJournal.{small_journal, frames_of_records, records_of}
 use Rattle.rcp_top.specs.Unread.{◌>>=◌}
 use Rattle.rcp_top.proofs.SeenLemmas.{seen_files, seen_more}
@@ -22,10 +24,10 @@ unfolding small_journal
 long_journal bytes longer = ap (λ b. cond b (frames_of_records (records_of bytes)) (Err Unbuilt)) (lt-leb (length bytes) 67108864 longer)
 
 -- a task file over the limit is refused
-long_file : (bytes : List ℕ) → 1048576 < length bytes → small_file bytes ≡ Err Unbuilt
+long_file : (bytes : List ℕ) → 1048576 < length bytes → small_file bytes ≡ Err fault.Unbuilt
 unfolding small_file
 long_file bytes longer =
-    ap (λ b. cond b (text_of bytes >>= document_of >>= document_parts) (Err Unbuilt)) (lt-leb (length bytes) 1048576 longer)
+    ap (λ b. cond b (of_part (document_in bytes) >>= document_parts) (Err fault.Unbuilt)) (lt-leb (length bytes) 1048576 longer)
 
 pub journal_was_read : (told : Option Files) (plan : PlanParts) (journal bytes : List ℕ) (failed : Type 0) (result : Result Answer Memory)
     → IfTold told (λ files. files journal ≡ Some bytes) → IfOk result (λ answer. outcome_of_answer answer ≡ of_frames plan (small_journal bytes))
@@ -43,10 +45,11 @@ journal_was_too_long (Some files) plan journal failed long = record {
   is_due = ap (of_frames plan) (sym (long_journal long.bytes long.longer));
 }
 
-pub file_was_none : (told : Option Files) (journal : List ℕ) (given : Result PlanParts Unread) (failed : Type 0)
-    → given ≡ Err Unbuilt → IfTold told (λ files. IsOfPlan journal (files journal) failed given task_refused)
-file_was_none None journal given failed none = tt
-file_was_none (Some files) journal given failed none = record { seen = files journal; is_seen = inl refl; is_due = ap (of_plan journal (files journal)) (sym none) }
+pub file_was_none : (told : Option Files) (journal : List ℕ) (given : Result PlanParts TaskFault) (failed : Type 0) (why : TaskFault)
+    → given ≡ Err why → IfTold told (λ files. IsOfPlan journal (files journal) failed given (of_fault why))
+file_was_none None journal given failed why none = tt
+file_was_none (Some files) journal given failed why none =
+    record { seen = files journal; is_seen = inl refl; is_due = ap (of_plan journal (files journal)) (sym none) }
 
 rises_since : (a b c : ℕ) → a ≤ b → Rises b c → Rises a c
 rises_since a b c later rises = omega (arith, later, rises)
@@ -57,6 +60,7 @@ cause_since_count told before between now words (answer.Unreadable name) later (
 cause_since_count told before between now words (answer.Unreadable name) later (inr missing) = inr missing
 cause_since_count told before between now words answer.Usage later cause = tt
 cause_since_count told before between now words answer.TaskRefused later cause = tt
+cause_since_count told before between now words (answer.TextRefused place text byte) later cause = tt
 cause_since_count told before between now words answer.JournalRefused later cause = tt
 cause_since_count told before between now words (answer.Ideal plan frames) later cause = tt
 

@@ -5,7 +5,7 @@ use Rattle.std.specs.Bool.{Decides}
 use Rattle.std.specs.Str.{bytes_eq}
 use Rattle.rcp_base.specs.Files.{Files}
 use Rattle.rcp_model.specs.declared.plan.PlanParts.{PlanParts}
-use Rattle.rcp_top.specs.declared.unread.Unread.{Unread}
+use Rattle.rcp_top.specs.declared.task_fault.TaskFault.{TaskFault}
 use Rattle.rcp_top.specs.Ending.{IsSeen}
 use Rattle.rcp_top.specs.Outcome.{Outcome, of_plan, of_files, unreadable}
 use Rattle.rcp_top.specs.Seen.{IsOfFiles}
@@ -93,7 +93,7 @@ seen_once : (name : List ℕ) (files : Files) (failed : Type 0) (held : Option (
 seen_once name files failed None due is fault is_due = seen_as_missing name name files failed due fault is_due
 seen_once name files failed (Some bytes) due is fault is_due = by_plan (small_file bytes) refl
   where
-    by_plan : (given : Result PlanParts Unread) → small_file bytes ≡ given → SeenFiles name name files failed due
+    by_plan : (given : Result PlanParts TaskFault) → small_file bytes ≡ given → SeenFiles name name files failed due
     by_plan (Ok plan) given_is = seen_as_missing name name files failed due fault (is_due ∙ ap (of_plan name None) given_is)
     by_plan (Err unread) given_is = record {
       seen = files;

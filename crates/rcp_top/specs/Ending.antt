@@ -37,6 +37,7 @@ abbrev pub HasCause : Option Files → ℕ → ℕ → List (List ℕ) → Answe
 HasCause told before now names (answer.Unreadable word) = Rises before now ⊎ IsMissingOne told names
 HasCause told before now names answer.Usage = ⊤
 HasCause told before now names answer.TaskRefused = ⊤
+HasCause told before now names (answer.TextRefused place fault byte) = ⊤
 HasCause told before now names answer.JournalRefused = ⊤
 HasCause told before now names (answer.Ideal plan frames) = ⊤
 

@@ -1,6 +1,8 @@
 pub mod Unread
+pub mod TaskFault
 pub mod Document
 pub mod SmallFile
+pub mod SectionViews
 pub mod SmallJournal
 pub mod Lines
 pub mod Outcome

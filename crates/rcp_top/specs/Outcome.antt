@@ -9,8 +9,12 @@ use Rattle.rcp_top.specs.declared.answer.Answer.{Answer}
 use Rattle.rcp_top.specs.declared.answer.Answer.TheVariants as answer
 use Rattle.rcp_top.specs.declared.status.Status.{Status}
 use Rattle.rcp_top.specs.declared.status.Status.TheVariants as status
+use Rattle.rcp_top.specs.declared.task_fault.TextPlace.{TextPlace}
+use Rattle.rcp_top.specs.declared.task_fault.TextFault.{TextFault}
+use Rattle.rcp_top.specs.declared.task_fault.TaskFault.{TaskFault}
+use Rattle.rcp_top.specs.declared.task_fault.TaskFault.TheVariants as fault
 use Rattle.rcp_top.specs.declared.unread.Unread.{Unread}
-use Rattle.rcp_top.specs.Lines.{frame_line, vote_line, ideal_line, end_line, unreadable_line, usage_line, task_refused_line, journal_refused_line}
+use Rattle.rcp_top.specs.Lines.{frame_line, vote_line, ideal_line, end_line, unreadable_line, usage_line, task_refused_line, text_refused_line, journal_refused_line}
 use Rattle.rcp_top.specs.SmallFile.{small_file}
 use Rattle.rcp_top.specs.SmallJournal.{small_journal}
 
@@ -46,9 +50,19 @@ unchanged plan frames = replicate frames (initial_values plan.sensors)
 abbrev pub usage : Outcome
 usage = record { status = status.Usage; text = usage_line }
 
--- the task file is none
+-- the task file has not the shape that is read
 abbrev pub task_refused : Outcome
 task_refused = record { status = status.TaskRefused; text = task_refused_line }
+
+-- the task file has a text that the task language has not
+abbrev pub text_refused : TextPlace → TextFault → ℕ → Outcome
+text_refused place fault byte = record { status = status.TaskRefused; text = text_refused_line place fault byte }
+
+-- the outcome of a fault of the task file; want of memory is none, and the definition of the file has none
+abbrev pub of_fault : TaskFault → Outcome
+of_fault (fault.Text place text byte) = text_refused place text byte
+of_fault fault.Unbuilt = task_refused
+of_fault fault.Memory = task_refused
 
 -- the journal is none
 abbrev pub journal_refused : Outcome
@@ -72,10 +86,10 @@ abbrev pub of_journal : PlanParts → List ℕ → Option (List ℕ) → Outcome
 of_journal plan word None = unreadable word
 of_journal plan word (Some bytes) = of_frames plan (small_journal bytes)
 
--- the outcome by what the task file gives: the parts of a plan, or that it is none
-abbrev pub of_plan : List ℕ → Option (List ℕ) → Result PlanParts Unread → Outcome
+-- the outcome by what the task file gives: the parts of a plan, or a fault
+abbrev pub of_plan : List ℕ → Option (List ℕ) → Result PlanParts TaskFault → Outcome
 of_plan journal held (Ok plan) = of_journal plan journal held
-of_plan journal held (Err unread) = task_refused
+of_plan journal held (Err fault) = of_fault fault
 
 -- the outcome by what is held under the words of the task file and of the journal
 abbrev pub of_files : List ℕ → List ℕ → Option (List ℕ) → Option (List ℕ) → Outcome
@@ -109,5 +123,6 @@ abbrev pub outcome_of_answer : Answer → Outcome
 outcome_of_answer answer.Usage = usage
 outcome_of_answer (answer.Unreadable word) = unreadable word.now
 outcome_of_answer answer.TaskRefused = task_refused
+outcome_of_answer (answer.TextRefused place fault byte) = text_refused place fault byte
 outcome_of_answer answer.JournalRefused = journal_refused
 outcome_of_answer (answer.Ideal plan frames) = ideal_run plan frames

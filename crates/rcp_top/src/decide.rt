@@ -11,6 +11,7 @@ ghost use Rattle.rcp_top.specs.SmallJournal.{small_journal};
 use crate::answer::Answer;
 use crate::small_file::small_file;
 use crate::small_journal::small_journal;
+use crate::task_fault::TaskFault;
 use crate::unread::Unread;
 use rcp_base::{Folder, MAX_JOURNAL, MAX_TASK_FILE, Memory, ReadError};
 use rcp_model::PlanParts;
@@ -86,8 +87,13 @@ fn with_task_file<'a, F: Folder>(
 {
     match small_file(alloc, bytes) {
         Ok(plan) => with_plan(alloc, plan, journal, folder),
-        Err(Unread::Unbuilt) => Ok(Answer::TaskRefused),
-        Err(Unread::Memory) => Err(Memory),
+        Err(TaskFault::Unbuilt) => Ok(Answer::TaskRefused),
+        Err(TaskFault::Text { place, fault, byte }) => Ok(Answer::TextRefused {
+            place,
+            fault,
+            byte,
+        }),
+        Err(TaskFault::Memory) => Err(Memory),
     }
 }
 

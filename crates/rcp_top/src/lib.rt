@@ -12,6 +12,7 @@ mod records;
 mod small_file;
 mod small_journal;
 mod status;
+mod task_fault;
 mod top;
 mod unread;
 mod write;

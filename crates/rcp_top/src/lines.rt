@@ -4,6 +4,7 @@ ghost use Rattle.std.specs.Prelude.{◌≡◌, ◌++◌, OnOk, IfOk};
 ghost use Rattle.std.specs.Fmt.{decimal, signed_decimal};
 ghost use Rattle.rcp_top.specs.Lines as spec;
 
+use crate::task_fault::{TextFault, TextPlace};
 use rcp_base::{Memory, Name};
 use std::alloc::Global;
 
@@ -98,6 +99,46 @@ pub fn unreadable_line(alloc: Global, word: &str) -> Result<Vec<u8>, Memory>
     put(&mut line, word.as_bytes())?;
     put(&mut line, b"\n")?;
     Ok(line)
+}
+
+/// `task file refused: E05 PATH byte N`
+#[tactic(auto, unfolding(crate::specs::Lines::text_refused_line))]
+pub fn text_refused_line(
+    alloc: Global,
+    place: TextPlace,
+    fault: TextFault,
+    byte: u32,
+) -> Result<Vec<u8>, Memory>
+    ensures { IfOk result (λ line. line.items ≡ spec.text_refused_line place fault byte) }
+{
+    let mut line = Vec::new(alloc);
+    put(&mut line, b"task file refused: ")?;
+    put(&mut line, code_of(fault))?;
+    put(&mut line, b" ")?;
+    put(&mut line, path_of(place))?;
+    put(&mut line, b" byte ")?;
+    put_count(alloc, &mut line, byte as u64)?;
+    put(&mut line, b"\n")?;
+    Ok(line)
+}
+
+fn code_of(fault: TextFault) -> &'static [u8]
+    ensures { result.now ≡ spec.code_of fault }
+{
+    match fault {
+        TextFault::Syntax => b"E05",
+        TextFault::UnknownName => b"E06",
+        TextFault::BadTarget => b"E07",
+    }
+}
+
+fn path_of(place: TextPlace) -> &'static [u8]
+    ensures { result.now ≡ spec.path_of place }
+{
+    match place {
+        TextPlace::Body => b"task[0].body",
+        TextPlace::Value => b"actuator[0].value",
+    }
 }
 
 /// All forms of words, built or not.

@@ -1,29 +1,53 @@
 //! The reader of the smallest task file: one cell, one task, one slot with that task, one actuator.
 //! This project's own.
-ghost use Rattle.std.specs.Prelude.{◌≡◌, ◌∷◌, [], IfOk};
+ghost use Rattle.std.specs.Prelude.{◌≡◌, ◌≤◌, ◌∷◌, [], length, IfOk};
 ghost use Rattle.toml.specs.View.{table_view};
 ghost use Rattle.rcp_top.specs.SmallFile as spec;
+ghost use Rattle.rcp_top.specs.SectionViews.{text_view, sections_view};
+ghost use Rattle.rcp_top.specs.TaskFault.{Reads};
 ghost use Rattle.rcp_top.specs.Unread.{Gives};
 
 use crate::document::{has_few_texts, has_only, integer_in, only_table_in, only_text_in, text_in};
+use crate::task_fault::{TaskFault, TextPlace};
 use crate::unread::Unread;
 use rcp_base::{List, MAX_BODY, MAX_CELLS, MAX_TASK_FILE, Memory, Name};
-use rcp_model::{ActuatorRow, PlanParts, SlotRow, Task, Timing, Variable};
+use rcp_model::{ActuatorRow, Expr, PlanParts, SlotRow, Task, Timing, Variable};
 use std::alloc::Global;
 use task_lang::{parse_body, parse_expr};
 use toml::Table;
 
+/// A name, and a text of the task language.
+#[derive(Clone, Copy)]
+struct NamedText<'a> {
+    name: Name,
+    text: &'a str,
+}
+
+/// What the sections of a document give, before its texts of the task language are read.
+#[derive(Drop)]
+struct Sections<'a> {
+    cell: Variable,
+    task: NamedText<'a>,
+    actuator: NamedText<'a>,
+}
+
 /// The parts of the plan that a file's bytes give.
 #[tactic(auto, unfolding(crate::specs::SmallFile::small_file))]
-pub fn small_file(alloc: Global, bytes: &[u8]) -> Result<PlanParts, Unread>
-    ensures { Gives (λ parts. parts) result (spec.small_file bytes.now) }
+pub fn small_file(alloc: Global, bytes: &[u8]) -> Result<PlanParts, TaskFault>
+    ensures { Reads (λ parts. parts) result (spec.small_file bytes.now) }
 {
     if bytes.len() as u64 > MAX_TASK_FILE {
-        return Err(Unread::Unbuilt);
+        return Err(TaskFault::Unbuilt);
     }
-    let text = text_of(bytes)?;
-    let document = document_of(alloc, text)?;
+    let document = document_in(alloc, bytes)?;
     document_parts(alloc, &document)
+}
+
+fn document_in(alloc: Global, bytes: &[u8]) -> Result<Table, Unread>
+    ensures { Gives (λ document. table_view document) result (spec.document_in bytes.now) }
+{
+    let text = text_of(bytes)?;
+    document_of(alloc, text)
 }
 
 #[tactic(auto, using(crate::proofs::TextLemmas::text_is_read, crate::proofs::TextLemmas::other_bytes_are_not))]
@@ -51,26 +75,80 @@ fn document_of(alloc: Global, text: &str) -> Result<Table, Unread>
     }
 }
 
-fn document_parts(alloc: Global, document: &Table) -> Result<PlanParts, Unread>
-    ensures { Gives (λ parts. parts) result (spec.document_parts (table_view document.now)) }
+fn document_parts(alloc: Global, document: &Table) -> Result<PlanParts, TaskFault>
+    ensures { Reads (λ parts. parts) result (spec.document_parts (table_view document.now)) }
+{
+    match document_sections(document) {
+        Ok(sections) => parts_in(alloc, &sections),
+        Err(part) => Err(TaskFault::from(part)),
+    }
+}
+
+fn document_sections<'a>(document: &'a Table) -> Result<Sections<'a>, Unread>
+    ensures sections { Gives sections_view result (spec.document_sections (table_view document.now)) }
+    ensures short { IfOk result (λ sections. spec.HasShortTexts (sections_view sections)) }
 {
     let keys = ["replicas", "timing", "cell", "task", "slot", "actuator"];
     if has_only(document, &keys) {
-        sections_of(alloc, document)
+        sections_of(document)
     } else {
         Err(Unread::Unbuilt)
     }
 }
 
 #[tactic(auto, unfolding(crate::specs::SmallFile::sections_of))]
-fn sections_of(alloc: Global, document: &Table) -> Result<PlanParts, Unread>
-    ensures { Gives (λ parts. parts) result (spec.sections_of (table_view document.now)) }
+fn sections_of<'a>(document: &'a Table) -> Result<Sections<'a>, Unread>
+    ensures sections { Gives sections_view result (spec.sections_of (table_view document.now)) }
+    ensures short { IfOk result (λ sections. spec.HasShortTexts (sections_view sections)) }
 {
     let cell = variable_of(only_table_in(document, "cell")?)?;
-    let task = task_of(alloc, &cell.name, only_table_in(document, "task")?)?;
-    let slot = slot_of(alloc, &task.name, only_table_in(document, "slot")?)?;
-    let actuator = actuator_of(alloc, &cell.name, only_table_in(document, "actuator")?)?;
-    Ok(parts_of(alloc, cell, task, slot, actuator)?)
+    let task = match named_text_of(only_table_in(document, "task")?, "body") {
+        Ok(task) => task,
+        Err(part) => return Err(part),
+    };
+    slot_entry_of(&task.name, only_table_in(document, "slot")?)?;
+    match named_text_of(only_table_in(document, "actuator")?, "value") {
+        Ok(actuator) => Ok(Sections {
+            cell,
+            task,
+            actuator,
+        }),
+        Err(part) => Err(part),
+    }
+}
+
+// The parts of the plan, with the texts of the sections read: first the body, then the value.
+#[tactic(auto, unfolding(crate::specs::SmallFile::parts_in))]
+fn parts_in(alloc: Global, sections: &Sections<'_>) -> Result<PlanParts, TaskFault>
+    requires { spec.HasShortTexts (sections_view sections.now) }
+    ensures { Reads (λ parts. parts) result (spec.parts_in (sections_view sections.now)) }
+{
+    let task = task_in(alloc, sections)?;
+    let value = value_in(alloc, sections)?;
+    Ok(parts_of(alloc, sections, task, value)?)
+}
+
+#[tactic(auto, using(task_lang::proofs::AnswerLaws::body_answers_read))]
+fn task_in(alloc: Global, sections: &Sections<'_>) -> Result<Task, TaskFault>
+    requires { spec.HasShortTexts (sections_view sections.now) }
+    ensures { Reads (λ task. task) result (spec.task_in (sections_view sections.now)) }
+{
+    let text = sections.task.text;
+    match parse_body(alloc, sections.task.name, text, &[], &[sections.cell.name]) {
+        Ok(task) => Ok(task),
+        Err(fault) => Err(TaskFault::of_text(TextPlace::Body, fault)),
+    }
+}
+
+#[tactic(auto, using(task_lang::proofs::AnswerLaws::expression_answers_read))]
+fn value_in(alloc: Global, sections: &Sections<'_>) -> Result<Expr, TaskFault>
+    requires { spec.HasShortTexts (sections_view sections.now) }
+    ensures { Reads (λ value. value) result (spec.value_in (sections_view sections.now)) }
+{
+    match parse_expr(alloc, sections.actuator.text, &[], &[sections.cell.name]) {
+        Ok(value) => Ok(value),
+        Err(fault) => Err(TaskFault::of_text(TextPlace::Value, fault)),
+    }
 }
 
 fn name_in(table: &Table) -> Result<Name, Unread>
@@ -85,7 +163,8 @@ fn name_in(table: &Table) -> Result<Name, Unread>
 
 // A text of at most 4,096 bytes.
 fn short_text_in<'a>(table: &'a Table, key: &str) -> Result<&'a str, Unread>
-    ensures { Gives (λ text. text.now) result (spec.short_text_in key.now (table_view table.now)) }
+    ensures text { Gives (λ text. text.now) result (spec.short_text_in key.now (table_view table.now)) }
+    ensures short { IfOk result (λ text. length text.now ≤ 4096) }
 {
     let text = text_in(table, key)?;
     if text.len() <= MAX_BODY {
@@ -107,45 +186,33 @@ fn variable_of(table: &Table) -> Result<Variable, Unread>
     }
 }
 
-fn task_of(alloc: Global, cell: &Name, table: &Table) -> Result<Task, Unread>
-    ensures { Gives (λ task. task) result (spec.task_of cell.now (table_view table.now)) }
+// A table of a name and a text.
+fn named_text_of<'a>(table: &'a Table, key: &str) -> Result<NamedText<'a>, Unread>
+    ensures text { Gives text_view result (spec.named_text_of key.now (table_view table.now)) }
+    ensures short { IfOk result (λ named. length named.text.now ≤ 4096) }
 {
     let name = name_in(table)?;
-    let body = short_text_in(table, "body")?;
-    if has_only(table, &["name", "body"]) {
-        Ok(parse_body(alloc, name, body, &[], &[*cell])?)
+    let text = short_text_in(table, key)?;
+    if has_only(table, &["name", key]) {
+        Ok(NamedText { name, text })
     } else {
         Err(Unread::Unbuilt)
     }
 }
 
-fn slot_of(alloc: Global, task: &Name, table: &Table) -> Result<SlotRow, Unread>
-    ensures { Gives (λ slot. slot) result (spec.slot_of task.now (table_view table.now)) }
+// The entry of the one slot, where this is the one task.
+fn slot_entry_of<'a>(task: &Name, table: &'a Table) -> Result<&'a str, Unread>
+    ensures { Gives (λ entry. entry.now) result (spec.slot_entry_of task.now (table_view table.now)) }
 {
     let entry = only_text_in(table, "tasks")?;
     if entry.as_bytes() == task.bytes()
         && has_few_texts(table, "votes", MAX_CELLS)
         && has_only(table, &["tasks", "votes"])
     {
-        Ok(SlotRow {
-            tasks: one(alloc, 0)?,
-            votes: List::new(alloc),
-        })
+        Ok(entry)
     } else {
         Err(Unread::Unbuilt)
     }
-}
-
-fn actuator_of(alloc: Global, cell: &Name, table: &Table) -> Result<ActuatorRow, Unread>
-    ensures { Gives (λ actuator. actuator) result (spec.actuator_of cell.now (table_view table.now)) }
-{
-    let name = name_in(table)?;
-    let text = short_text_in(table, "value")?;
-    if !has_only(table, &["name", "value"]) {
-        return Err(Unread::Unbuilt);
-    }
-    let value = parse_expr(alloc, text, &[], &[*cell])?;
-    Ok(ActuatorRow { name, value })
 }
 
 // A list of one.
@@ -173,13 +240,24 @@ const UNREAD_TIMING: Timing = Timing {
 
 fn parts_of(
     alloc: Global,
-    cell: Variable,
+    sections: &Sections<'_>,
     task: Task,
-    slot: SlotRow,
-    actuator: ActuatorRow,
+    value: Expr,
 ) -> Result<PlanParts, Memory>
-    ensures { IfOk result (λ parts. parts ≡ spec.parts_of cell task slot actuator) }
+    ensures { IfOk result (λ parts. parts ≡ spec.parts_of (sections_view sections.now) task value) }
 {
+    let actuator = ActuatorRow {
+        name: sections.actuator.name,
+        value,
+    };
+    let cell = Variable {
+        name: sections.cell.name,
+        initial: sections.cell.initial,
+    };
+    let slot = SlotRow {
+        tasks: one(alloc, 0)?,
+        votes: List::new(alloc),
+    };
     Ok(PlanParts {
         replicas: 1,
         timing: UNREAD_TIMING,

@@ -44,6 +44,8 @@ initial = 0 => initial = -9223372036854775808
 ["n"] => []
 name = "n", initial = 0 => initial = 0, name = "n"
 n := n + 1; => n:=n+0001;
+n := n + 1; => let x = (n * 1); n := if(x < 3, x, 0);
+value = "n" => value = "clamp(n, 0, 9)"
 "#;
 
 // Parts of the counter's file, and what may not stand in their place.
@@ -57,17 +59,66 @@ initial = 0 => initial = 0, final = 1
 name = "n" => name = "N"
 name = "n" => name = "let"
 name = "n" => name = "a23456789012345678901234567890123"
-n := n + 1; => n := n * 1;
-n := n + 1; => n := (n + 1);
-n := n + 1; => m := n + 1;
-n := n + 1; => n := n + 1
 ["count"] => ["count", "count"]
 ["count"] => ["other"]
 ["n"] => [1]
 ["n"] => "n"
-value = "n" => value = "m"
-value = "n" => value = ""
 "#;
+
+// Parts of the counter's file, what stands in their place, and the fault that it has.
+const FAULTS: &str = r#"n := n + 1; =>  => E05 task[0].body byte 0
+n := n + 1; => n := 9223372036854775808; => E05 task[0].body byte 5
+n := n + 1; => n := n + 1 => E05 task[0].body byte 10
+n := n + 1; => n := n < 1 < 2; => E05 task[0].body byte 11
+n := n + 1; => m := n + 1; => E07 task[0].body byte 0
+n := n + 1; => n := m; => E06 task[0].body byte 5
+n := n + 1; => n := 1; n := 2; => E07 task[0].body byte 8
+n := n + 1; => let n = 1; n := 2; => E07 task[0].body byte 4
+n := n + 1; => let x = x; n := x; => E06 task[0].body byte 8
+value = "n" => value = "" => E05 actuator[0].value byte 0
+value = "n" => value = "n +" => E05 actuator[0].value byte 3
+value = "n" => value = "n;" => E05 actuator[0].value byte 1
+value = "n" => value = "1 + m" => E06 actuator[0].value byte 4
+"#;
+
+// Values that the counter's body may give its cell, which has 0 before.
+const VALUES: &str = "7 - 4 - 2 => 1
+9223372036854775807 + 1 => 9223372036854775807
+-9223372036854775807 - 2 => -9223372036854775808
+9223372036854775807 * 2 => 9223372036854775807
+9223372036854775807 * -2 => -9223372036854775808
+-(-9223372036854775807 - 1) => 9223372036854775807
+abs(-9223372036854775807 - 1) => 9223372036854775807
+5 / 0 => 0
+5 % 0 => 0
+(-9223372036854775807 - 1) / -1 => 9223372036854775807
+(-9223372036854775807 - 1) % -1 => 0
+-7 / 2 => -3
+-7 % 2 => -1
+7 / -2 => -3
+7 % -2 => 1
+min(3, -4) => -4
+max(3, -4) => 3
+clamp(5, 0, 10) => 5
+clamp(5, 10, 0) => 10
+if(2, 3, 4) => 3
+if(0, 3, 4) => 4
+2 and 3 => 1
+2 and 0 => 0
+0 or -7 => 1
+0 or 0 => 0
+not 5 => 0
+not 0 => 1
+not 0 + 1 => 0
+3 == 3 => 1
+3 != 3 => 0
+3 < 4 => 1
+4 <= 3 => 0
+4 > 3 => 1
+3 >= 4 => 0
+1 + 2 * 3 => 7
+(1 + 2) * 3 => 9
+";
 
 // Journals, with a slash for each line feed.
 const ACCEPTED_JOURNALS: &str = r#"frame,kind,a,b,c,d/1,end,,,,
@@ -158,10 +209,10 @@ fn files_that_are_missing_are_unreadable(rt: HostRuntime) -> Result<(), Fail> {
     Ok(())
 }
 
-// The counter's file with one part in place of another, by a line `OLD => NEW`.
-fn changed(alloc: Global, line: &str) -> Result<String, Fail> {
+// A file with one part in place of another, by a line `OLD => NEW`.
+fn changed(alloc: Global, file: &str, line: &str) -> Result<String, Fail> {
     let (old, new) = line.split_once(" => ").ok_or("no change")?;
-    let (before, behind) = COUNTER.split_once(old).ok_or("no such part")?;
+    let (before, behind) = file.split_once(old).ok_or("no such part")?;
     let mut text = String::from_str(alloc, before)?;
     text.push_str(new)?;
     text.push_str(behind)?;
@@ -171,7 +222,7 @@ fn changed(alloc: Global, line: &str) -> Result<String, Fail> {
 #[test]
 fn other_task_files_are_refused(rt: HostRuntime) -> Result<(), Fail> {
     for line in REFUSED_PARTS.lines() {
-        let file = changed(rt.alloc(), line)?;
+        let file = changed(rt.alloc(), COUNTER, line)?;
         let due = (Status::TaskRefused, TASK_REFUSED);
         check(&rt, rt.alloc(), "ideal T J", file.as_str(), TWO_FRAMES, due)?;
     }
@@ -189,7 +240,7 @@ fn status_of(alloc: Global, file: &str, journal: &str) -> Result<Status, Fail> {
 #[test]
 fn the_smallest_task_files_are_accepted(rt: HostRuntime) -> Result<(), Fail> {
     for line in ACCEPTED_PARTS.lines() {
-        let file = changed(rt.alloc(), line)?;
+        let file = changed(rt.alloc(), COUNTER, line)?;
         let status = status_of(rt.alloc(), file.as_str(), TWO_FRAMES)?;
         assert_eq!(rt; status, Status::Done, "{line}");
     }
@@ -223,23 +274,51 @@ fn journals_are_the_header_and_an_end(rt: HostRuntime) -> Result<(), Fail> {
 }
 
 #[test]
-fn sums_stop_at_the_ends_of_64_bits(rt: HostRuntime) -> Result<(), Fail> {
+fn expressions_have_their_values(rt: HostRuntime) -> Result<(), Fail> {
     let alloc = rt.alloc();
-    for (line, value) in [
-        ("n + 1 => 9223372036854775807 + 1", "9223372036854775807"),
-        (
-            "n + 1 => 0 - 9223372036854775807 - 2",
-            "-9223372036854775808",
-        ),
-        ("n + 1 => 7 - 4 - 2", "1"),
-    ] {
-        let file = changed(alloc, line)?;
+    let journal = "frame,kind,a,b,c,d\n1,end,,,,\n";
+    for line in VALUES.lines() {
+        let (expression, value) = line.split_once(" => ").ok_or("no value")?;
+        let change = format!(in alloc; "n + 1 => {expression}")?;
+        let file = changed(alloc, COUNTER, change.as_str())?;
         let text = format!(in alloc;
             "frame 0\nvote out {value}\nideal slot 0 cells {value}\nend 1\n"
         )?;
-        let journal = "frame,kind,a,b,c,d\n1,end,,,,\n";
         let due = (Status::Done, text.as_str());
         check(&rt, alloc, "ideal T J", file.as_str(), journal, due)?;
+    }
+    Ok(())
+}
+
+#[test]
+fn texts_with_faults_are_refused_with_their_byte(rt: HostRuntime) -> Result<(), Fail> {
+    let alloc = rt.alloc();
+    for line in FAULTS.lines() {
+        let (change, fault) = line.rsplit_once(" => ").ok_or("no fault")?;
+        let file = changed(alloc, COUNTER, change)?;
+        let text = format!(in alloc; "task file refused: {fault}\n")?;
+        let due = (Status::TaskRefused, text.as_str());
+        check(&rt, alloc, "ideal T Y", file.as_str(), TWO_FRAMES, due)?;
+    }
+    Ok(())
+}
+
+#[test]
+fn the_first_fault_is_told(rt: HostRuntime) -> Result<(), Fail> {
+    let alloc = rt.alloc();
+    let body = changed(alloc, COUNTER, "n + 1 => m")?;
+    let both = changed(alloc, body.as_str(), "value = \"n\" => value = \"\"")?;
+    let text = "task file refused: E06 task[0].body byte 5\n";
+    let due = (Status::TaskRefused, text);
+    check(&rt, alloc, "ideal T J", both.as_str(), TWO_FRAMES, due)?;
+    for line in [
+        "replicas = 3 => speed = 1",
+        "[\"count\"] => [\"other\"]",
+        "\"out\" => \"Out\"",
+    ] {
+        let shape = changed(alloc, both.as_str(), line)?;
+        let due = (Status::TaskRefused, TASK_REFUSED);
+        check(&rt, alloc, "ideal T J", shape.as_str(), TWO_FRAMES, due)?;
     }
     Ok(())
 }

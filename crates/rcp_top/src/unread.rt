@@ -1,10 +1,9 @@
-//! Why a file is not read.
+//! Why a part of a file is not read.
 //! This project's own.
 use rcp_base::Memory;
 use std::alloc::{AllocError, AllocFailed};
-use task_lang::LangFault;
 
-/// Why a file is not read. Until the whole formats are read, each file that is not among the smallest is `Unbuilt`.
+/// Why a part of a file, or a journal, is not read. Until the whole formats are read, each that is not among the smallest is `Unbuilt`.
 #[derive(Clone, Copy, Debug, PartialEq, Eq)]
 pub enum Unread {
     Unbuilt,
@@ -41,19 +40,5 @@ impl<T: Drop> From<AllocFailed<T>> for Unread {
 
     fn from(_: AllocFailed<T>) -> Unread {
         Unread::Memory
-    }
-}
-
-impl From<LangFault> for Unread {
-    ghost use Rattle.std.specs.Prelude.{◌≡◌};
-    ghost use Rattle.rcp_top.specs.Unread.{unread_of};
-
-    ghost from_gives = { λ fault unread. unread ≡ unread_of fault };
-
-    fn from(fault: LangFault) -> Unread {
-        match fault {
-            LangFault::Memory => Unread::Memory,
-            _ => Unread::Unbuilt,
-        }
     }
 }
