@@ -5,3 +5,6 @@ pub mod Files
 pub mod SureFolder
 pub mod Writing
 pub mod Tables
+pub mod Calls
+pub mod MemFolder
+pub mod MemSink

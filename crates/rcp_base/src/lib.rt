@@ -3,8 +3,11 @@
 #![tactic(auto)]
 
 mod arithmetic;
+mod calls;
 mod folder;
 mod list;
+mod mem_folder;
+mod mem_sink;
 mod memory;
 mod name;
 mod sink;
@@ -14,6 +17,8 @@ mod sure_sink;
 pub use arithmetic::{abs, add, div, mul, neg, rem, sub};
 pub use folder::{Folder, ReadError};
 pub use list::List;
+pub use mem_folder::MemFolder;
+pub use mem_sink::MemSink;
 pub use memory::Memory;
 pub use name::Name;
 pub use sink::{Sink, WriteError};

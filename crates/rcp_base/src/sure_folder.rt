@@ -1,7 +1,7 @@
 //! A folder in memory that never fails.
 //! This project's own.
-ghost use Rattle.std.specs.Prelude.{◌≡◌, List, ℕ, None, OnOk, OnErr};
-ghost use Rattle.rcp_base.specs.Files.{with_file};
+ghost use Rattle.std.specs.Prelude.{◌≡◌, List, ℕ, [], OnOk, OnErr};
+ghost use Rattle.rcp_base.specs.Files.{with_file, Reads};
 
 use crate::{Folder, Memory, ReadError};
 use std::alloc::Global;
@@ -37,6 +37,29 @@ impl SureFolder {
         self.held.insert(name, bytes)?;
         Ok(())
     }
+
+    /// Reads a file of at most `limit` bytes.
+    pub(crate) fn copy_file(
+        &self,
+        name: &str,
+        limit: u64,
+        into: &mut Vec<u8>,
+    ) -> Result<(), ReadError>
+        requires { into.old.items ≡ [] }
+        ensures reads { Reads (Some (files_of self.now)) name.now limit 0 0 result into.new.items }
+        ensures missing { files_of self.now name.now ≡ None → result ≡ Err ReadError.Failed }
+    {
+        let Some(bytes) = self.held.get(name) else {
+            return Err(ReadError::Failed);
+        };
+        if into.extend_from_slice(bytes).is_err() {
+            Err(ReadError::Memory)
+        } else if bytes.len() as u64 > limit {
+            Err(ReadError::TooLong)
+        } else {
+            Ok(())
+        }
+    }
 }
 
 impl Folder for SureFolder {
@@ -54,15 +77,6 @@ impl Folder for SureFolder {
         limit: u64,
         into: &mut Vec<u8>,
     ) -> Result<(), ReadError> {
-        let Some(bytes) = self.held.get(name) else {
-            return Err(ReadError::Failed);
-        };
-        if into.extend_from_slice(bytes).is_err() {
-            Err(ReadError::Memory)
-        } else if bytes.len() as u64 > limit {
-            Err(ReadError::TooLong)
-        } else {
-            Ok(())
-        }
+        self.copy_file(name, limit, into)
     }
 }

@@ -1,8 +1,8 @@
 //! A sink in memory that never fails.
 //! This project's own.
-ghost use Rattle.std.specs.Prelude.{◌≡◌, []};
+ghost use Rattle.std.specs.Prelude.{◌≡◌, [], ◌++◌, OnOk, OnErr};
 
-use crate::{Sink, WriteError};
+use crate::{Memory, Sink, WriteError};
 use std::alloc::Global;
 use std::marker::Model;
 
@@ -35,6 +35,15 @@ impl SureSink {
     {
         self.bytes.as_slice()
     }
+
+    /// Writes these bytes behind what was written so far.
+    pub(crate) fn append(&mut self, bytes: &[u8]) -> Result<(), Memory>
+        ensures ok { OnOk result (self.new ≡ self.old ++ bytes.now) }
+        ensures err { OnErr result (self.new ≡ self.old) }
+    {
+        self.bytes.extend_from_slice(bytes)?;
+        Ok(())
+    }
 }
 
 impl Sink for SureSink {
@@ -45,9 +54,7 @@ impl Sink for SureSink {
     ghost faults = { λ _. 0 };
 
     fn write_all(&mut self, bytes: &[u8]) -> Result<(), WriteError> {
-        match self.bytes.extend_from_slice(bytes) {
-            Ok(()) => Ok(()),
-            Err(_) => Err(WriteError::Memory),
-        }
+        self.append(bytes)?;
+        Ok(())
     }
 }
