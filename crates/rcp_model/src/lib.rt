@@ -2,10 +2,13 @@
 //! After NASA TM-102716.
 #![tactic(auto)]
 
+mod checked_plan;
 mod expr;
+pub mod laws;
 mod plan;
 mod task;
 
+pub use checked_plan::Plan;
 pub use expr::{Expr, Op};
 pub use plan::{ActuatorRow, PlanParts, SlotRow, Timing, Variable};
 pub use task::{LetRow, SetRow, Task};

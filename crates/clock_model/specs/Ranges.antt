@@ -1,0 +1,23 @@
+-- The ranges in which a timing is tested in 64 bits, and the two halves of the fifth rule. This project's own.
+use Rattle.std.specs.Prelude.{ℤ, pos, ◌≤ℤ◌}
+use Rattle.rcp_model.specs.declared.plan.Timing.{Timing}
+use Rattle.rcp_model.specs.TimingRules.{delay_limit_of}
+
+-- the ticks of up to three phases together
+abbrev pub IsSpan : ℤ → Type 0
+IsSpan x = (pos 0 ≤ℤ x) × (x ≤ℤ pos 3_000_000_000)
+
+-- the ticks that a clock may drift over them
+abbrev pub IsDrift : ℤ → Type 0
+IsDrift x = (pos 0 ≤ℤ x) × (x ≤ℤ pos 3_000_000_000_000)
+
+-- the skew and drift of healthy replicas are within what a journal may give
+pub record ClocksNest (timing : Timing) : Type 0 where
+  pub skew : timing.skew ≤ℤ timing.skew_limit
+  pub drift : timing.drift_ppm ≤ℤ timing.drift_limit_ppm
+  pub drift_limit : timing.drift_limit_ppm ≤ℤ pos 1_000
+
+-- and so are their delays
+pub record DelaysNest (timing : Timing) : Type 0 where
+  pub delay : timing.delay_min ≤ℤ timing.delay_max
+  pub delay_limit : timing.delay_max ≤ℤ delay_limit_of timing

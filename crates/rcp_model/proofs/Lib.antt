@@ -1,0 +1,4 @@
+pub mod TimingLaws
+pub mod RoundingLaws
+pub mod NameLaws
+pub mod ExprLaws
