@@ -50,3 +50,7 @@ mod TokensReadBack
 mod TextReadBack
 pub mod PrintingLaws
 mod RowSteps
+mod OverScopes
+mod NamesAmong
+mod RowRules
+pub mod PlanRuleLaws

@@ -1,5 +1,5 @@
--- What holds of each leaf and is kept by each kind of tree holds of each tree that the grammar has.
-use Rattle.std.proofs.Common.{◌≡◌, ℕ, zero, suc, List, [], ◌∷◌, Option, Some, sym, ap, ◌∙◌, subst}
+-- What holds of each leaf and is kept by each kind of tree holds of each tree that the grammar has, also of fine tokens alone.
+use Rattle.std.proofs.Common.{◌≡◌, ℕ, zero, suc, List, [], ◌∷◌, ◌++◌, Option, Some, sym, ap, ◌∙◌, subst}
 use Rattle.rcp_model.specs.declared.expr.Expr.{Expr}
 use Rattle.rcp_model.specs.declared.expr.Expr.TheVariants as expr
 use Rattle.rcp_model.specs.declared.expr.Op.{Op}
@@ -74,17 +74,53 @@ pub record TreesKeep (Good : Expr → Type 0) : Type 0 where
   pub clamp : (a low high : Expr) → Good a → Good low → Good high → Good (expr.Clamp a low high)
   pub choice : (test a b : Expr) → Good test → Good a → Good b → Good (expr.If test a b)
 
-record InsideHolds (Good : Expr → Type 0) (inner : Enclosed) : Type 0 where
-  expr : (tokens : List Token) (a : Expr) → inner.expr tokens a → Good a
-  inv : (tokens : List Token) (a : Expr) → inner.inv tokens a → Good a
-  unary : (tokens : List Token) (a : Expr) → inner.unary tokens a → Good a
+-- each token is so
+abbrev pub AllAre : (Token → Type 0) → List Token → Type 0
+AllAre Fine [] = Unit {0}
+AllAre Fine (first ∷ others) = Fine first × AllAre Fine others
 
-module _ (Good : Expr → Type 0) (keep : TreesKeep Good) where
-  chain_holds : (op : Token → Option Op) (Operand : List Token → Expr → Type 0) → ((tokens : List Token) (a : Expr) → Operand tokens a → Good a)
-      → (tokens : List Token) (a : Expr) → LeftGrouped op Operand tokens a → Good a
-  chain_holds op Operand each tokens a (one list b derived) = each list b derived
-  chain_holds op Operand each tokens a (more list b front token operator is behind c derived) =
-      keep.two operator b c (chain_holds op Operand each list b front) (each behind c derived)
+module _ (Fine : Token → Type 0) where
+  front_are : (some others : List Token) → AllAre Fine (some ++ others) → AllAre Fine some
+  front_are [] others fine = tt
+  front_are (first ∷ some) others fine = (fine.0, front_are some others fine.1)
+
+  back_are : (some others : List Token) → AllAre Fine (some ++ others) → AllAre Fine others
+  back_are [] others fine = fine
+  back_are (first ∷ some) others fine = back_are some others fine.1
+
+  -- so are those that are written inside a sequence
+  sequence_cut : (Inner : List Token → Expr → Type 0) (parts : List Part) (tokens : List Token) (trees : List Expr) → AllAre Fine tokens → Sequence Inner parts tokens trees
+      → Sequence (λ tokens a. AllAre Fine tokens × Inner tokens a) parts tokens trees
+  sequence_cut Inner [] tokens trees fine derived = derived
+  sequence_cut Inner (Sign mark ∷ parts) tokens trees fine derived =
+      (derived.0, derived.1, sequence_cut Inner parts derived.0 trees (subst (AllAre Fine) derived.1 fine).1 derived.2)
+  sequence_cut Inner (Inside ∷ parts) tokens trees fine derived =
+      let all : AllAre Fine (derived.0 ++ derived.1) = subst (AllAre Fine) derived.4 fine in (
+        derived.0,
+        derived.1,
+        derived.2,
+        derived.3,
+        derived.4,
+        derived.5,
+        (front_are derived.0 derived.1 all, derived.6),
+        sequence_cut Inner parts derived.1 derived.3 (back_are derived.0 derived.1 all) derived.7,
+      )
+
+-- it holds of each tree that a rule writes with such tokens
+abbrev Holds : (Token → Type 0) → (Expr → Type 0) → (List Token → Expr → Type 0) → Type 0
+Holds Fine Good Writes = (tokens : List Token) (a : Expr) → AllAre Fine tokens → Writes tokens a → Good a
+
+record InsideHolds (Fine : Token → Type 0) (Good : Expr → Type 0) (inner : Enclosed) : Type 0 where
+  expr : Holds Fine Good inner.expr
+  inv : Holds Fine Good inner.inv
+  unary : Holds Fine Good inner.unary
+
+module _ (Fine : Token → Type 0) (Good : Expr → Type 0) (keep : TreesKeep Good) where
+  chain_holds : (op : Token → Option Op) (Operand : List Token → Expr → Type 0) → Holds Fine Good Operand → Holds Fine Good (LeftGrouped op Operand)
+  chain_holds op Operand each tokens a fine (one list b derived) = each list b fine derived
+  chain_holds op Operand each tokens a fine (more list b front token operator is behind c derived) =
+      keep.two operator b c (chain_holds op Operand each list b (front_are Fine list (token ∷ behind) fine) front)
+      (each behind c (back_are Fine list (token ∷ behind) fine).1 derived)
 
   forms_keep : FormsKeep Good Good
   forms_keep = record {
@@ -96,46 +132,60 @@ module _ (Good : Expr → Type 0) (keep : TreesKeep Good) where
     choice = keep.choice;
   }
 
-module _ (Good : Expr → Type 0) (keep : TreesKeep Good) (scope : Scope) (leaves : (first : Token) (a : Expr) → leaf_of scope first ≡ Some a → Good a)
-    (inner : Enclosed) (inside : InsideHolds Good inner) where
-  prim_holds : (tokens : List Token) (a : Expr) → prim_rule scope inner tokens a → Good a
-  prim_holds tokens a (leaf token b is) = leaves token b is
-  prim_holds tokens a (within token form is list trees derived) =
-      form_holds Good Good (forms_keep Good keep) form trees (sequence_holds inner.expr Good inside.expr (parts_of form) list trees derived)
+module _ (Fine : Token → Type 0) (Good : Expr → Type 0) (keep : TreesKeep Good) (scope : Scope) (leaves : (first : Token) (a : Expr) → Fine first → leaf_of scope first ≡ Some a → Good a)
+    (inner : Enclosed) (inside : InsideHolds Fine Good inner) where
+  prim_holds : Holds Fine Good (prim_rule scope inner)
+  prim_holds tokens a fine (leaf token b is) = leaves token b fine.0 is
+  prim_holds tokens a fine (within token form is list trees derived) =
+      form_holds Good Good (forms_keep Fine Good keep) form trees
+      (sequence_holds (λ tokens a. AllAre Fine tokens × inner.expr tokens a) Good (λ tokens a both. inside.expr tokens a both.0 both.1) (parts_of form) list trees
+      (sequence_cut Fine inner.expr (parts_of form) list trees fine.1 derived))
 
-  unary_holds : (tokens : List Token) (a : Expr) → unary_rule scope inner tokens a → Good a
-  unary_holds tokens a (plain list b derived) = prim_holds list b derived
-  unary_holds tokens a (prefixed_by token list b is derived) = keep.neg b (inside.unary list b derived)
+  unary_holds : Holds Fine Good (unary_rule scope inner)
+  unary_holds tokens a fine (plain list b derived) = prim_holds list b fine derived
+  unary_holds tokens a fine (prefixed_by token list b is derived) = keep.neg b (inside.unary list b fine.1 derived)
 
-  sum_holds : (tokens : List Token) (a : Expr) → sum_rule scope inner tokens a → Good a
+  sum_holds : Holds Fine Good (sum_rule scope inner)
   sum_holds =
-      chain_holds Good keep sum_op (product_rule scope inner) (chain_holds Good keep product_op (unary_rule scope inner) unary_holds)
+      chain_holds Fine Good keep sum_op (product_rule scope inner) (chain_holds Fine Good keep product_op (unary_rule scope inner) unary_holds)
 
-  comparison_holds : (tokens : List Token) (a : Expr) → comparison_rule scope inner tokens a → Good a
-  comparison_holds tokens a (single list b derived) = sum_holds list b derived
-  comparison_holds tokens a (pair list b front token operator is behind c derived) =
-      keep.two operator b c (sum_holds list b front) (sum_holds behind c derived)
+  comparison_holds : Holds Fine Good (comparison_rule scope inner)
+  comparison_holds tokens a fine (single list b derived) = sum_holds list b fine derived
+  comparison_holds tokens a fine (pair list b front token operator is behind c derived) =
+      keep.two operator b c (sum_holds list b (front_are Fine list (token ∷ behind) fine) front)
+      (sum_holds behind c (back_are Fine list (token ∷ behind) fine).1 derived)
 
-  inv_holds : (tokens : List Token) (a : Expr) → inv_rule scope inner tokens a → Good a
-  inv_holds tokens a (plain list b derived) = comparison_holds list b derived
-  inv_holds tokens a (prefixed_by token list b is derived) = keep.denied b (inside.inv list b derived)
+  inv_holds : Holds Fine Good (inv_rule scope inner)
+  inv_holds tokens a fine (plain list b derived) = comparison_holds list b fine derived
+  inv_holds tokens a fine (prefixed_by token list b is derived) = keep.denied b (inside.inv list b fine.1 derived)
 
-  expr_holds : (tokens : List Token) (a : Expr) → expr_rule scope inner tokens a → Good a
-  expr_holds = chain_holds Good keep or_op (conj_rule scope inner) (chain_holds Good keep and_op (inv_rule scope inner) inv_holds)
+  expr_holds : Holds Fine Good (expr_rule scope inner)
+  expr_holds = chain_holds Fine Good keep or_op (conj_rule scope inner) (chain_holds Fine Good keep and_op (inv_rule scope inner) inv_holds)
 
-module _ (Good : Expr → Type 0) (keep : TreesKeep Good) (scope : Scope) (leaves : (first : Token) (a : Expr) → leaf_of scope first ≡ Some a → Good a) where
-  all_hold : (n : ℕ) → InsideHolds Good (enclosed_by scope n)
+module _ (Fine : Token → Type 0) (Good : Expr → Type 0) (keep : TreesKeep Good) (scope : Scope) (leaves : (first : Token) (a : Expr) → Fine first → leaf_of scope first ≡ Some a → Good a) where
+  all_hold : (n : ℕ) → InsideHolds Fine Good (enclosed_by scope n)
   all_hold zero =
-      record { expr = λ tokens a derived. absurd derived; inv = λ tokens a derived. absurd derived; unary = λ tokens a derived. absurd derived }
+      record { expr = λ tokens a fine derived. absurd derived; inv = λ tokens a fine derived. absurd derived; unary = λ tokens a fine derived. absurd derived }
   all_hold (suc n) =
       let inner = enclosed_by scope n in
-      let inside : InsideHolds Good inner = all_hold n in
+      let inside : InsideHolds Fine Good inner = all_hold n in
       record {
-        expr = expr_holds Good keep scope leaves inner inside;
-        inv = inv_holds Good keep scope leaves inner inside;
-        unary = unary_holds Good keep scope leaves inner inside;
+        expr = expr_holds Fine Good keep scope leaves inner inside;
+        inv = inv_holds Fine Good keep scope leaves inner inside;
+        unary = unary_holds Fine Good keep scope leaves inner inside;
       }
 
-  -- it holds of each tree that tokens write
-  pub tree_holds : (n : ℕ) (tokens : List Token) (a : Expr) → expr_rule scope (enclosed_by scope n) tokens a → Good a
-  tree_holds n = expr_holds Good keep scope leaves (enclosed_by scope n) (all_hold n)
+  -- it holds of each tree that such tokens write
+  pub fine_tree_holds : (n : ℕ) (tokens : List Token) (a : Expr) → AllAre Fine tokens → expr_rule scope (enclosed_by scope n) tokens a → Good a
+  fine_tree_holds n = expr_holds Fine Good keep scope leaves (enclosed_by scope n) (all_hold n)
+
+-- any tokens are any tokens
+any_are : (tokens : List Token) → AllAre (λ first. Unit {0}) tokens
+any_are [] = tt
+any_are (first ∷ others) = (tt, any_are others)
+
+-- it holds of each tree that tokens write
+pub tree_holds : (Good : Expr → Type 0) → TreesKeep Good → (scope : Scope) → ((first : Token) (a : Expr) → leaf_of scope first ≡ Some a → Good a)
+    → (n : ℕ) (tokens : List Token) (a : Expr) → expr_rule scope (enclosed_by scope n) tokens a → Good a
+tree_holds Good keep scope leaves n tokens a derived =
+    fine_tree_holds (λ first. Unit {0}) Good keep scope (λ first a fine is. leaves first a is) n tokens a (any_are tokens) derived

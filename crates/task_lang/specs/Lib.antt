@@ -15,3 +15,4 @@ pub mod Printing
 pub mod PrintedTokens
 pub mod RightNames
 pub mod ReadBack
+pub mod PlanRules

@@ -3,6 +3,7 @@
 ghost use Rattle.std.specs.Prelude.{ℕ, List};
 ghost use Rattle.task_lang.specs.Readings.{ExpressionsAreRead, BodiesAreRead, ExpressionsHaveOneAnswer, BodiesHaveOneAnswer, TokensStandIn, ExpressionTextsAreRead, BodyTextsAreRead, ExpressionAnswersAreRead, BodyAnswersAreRead, NamesMoveNoExpressionFault, NamesMoveNoBodyFault};
 ghost use Rattle.task_lang.specs.ReadBack.{PrintedTasksReadBack};
+ghost use Rattle.task_lang.specs.PlanRules.{ExpressionsKeepRules, BodiesKeepRules, BodiesKeepNames};
 ghost use Rattle.task_lang.specs.RightNames.{ExpressionNamesAreScanned, BodyNamesAreScanned, KnownNamesStand, ExpressionsHaveNoTargets};
 
 /// An expression has one tree at most, and where it has none the fault is at the first token with which none goes on.
@@ -56,4 +57,11 @@ pub fn names_are_scanned()
     ensures bodies { BodyNamesAreScanned }
     ensures known { KnownNamesStand }
     ensures targets { ExpressionsHaveNoTargets }
+{}
+
+/// What is read of a text keeps the rules of a plan, and a task has the name that it was read for.
+pub fn read_tasks_keep_rules()
+    ensures expressions { ExpressionsKeepRules }
+    ensures bodies { BodiesKeepRules }
+    ensures names { BodiesKeepNames }
 {}

@@ -1,0 +1,10 @@
+-- What follows from the verdict on a task file.
+-- This project's own.
+use Rattle.std.specs.Prelude.{ℕ, ◌≡◌, List, Ok}
+use Rattle.rcp_model.specs.declared.plan.PlanParts.{PlanParts}
+use Rattle.rcp_model.specs.Plan.{IsPlan}
+use Rattle.task_file.specs.TaskFile.{task_file_verdict}
+
+-- the parts of a file that passes every test keep the rules of a plan
+abbrev pub VerdictsArePlans : Type 0
+VerdictsArePlans = (bytes : List ℕ) (parts : PlanParts) → task_file_verdict bytes ≡ Ok parts → IsPlan parts

@@ -1,0 +1,16 @@
+pub mod Verdict
+pub mod Document
+pub mod Shape
+pub mod ShapeParts
+pub mod SectionViews
+pub mod Limits
+pub mod Names
+pub mod NameLists
+pub mod Texts
+pub mod WrittenViews
+pub mod Slots
+pub mod SlotRows
+pub mod TaskFile
+pub mod DocumentParts
+pub mod PathText
+pub mod Laws

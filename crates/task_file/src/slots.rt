@@ -1,0 +1,104 @@
+//! The slots of a task file by the numbers of their tasks and cells.
+//! This project's own.
+ghost use Rattle.std.specs.Prelude.{◌≡◌, ◌≤◌, ◌<◌, length, map, position, All, IfOk, IfSome};
+ghost use Rattle.std.specs.Str.{bytes_eq};
+ghost use Rattle.task_file.specs.Limits.{IsShortSlot};
+ghost use Rattle.task_file.specs.SectionViews.{slot_view};
+ghost use Rattle.task_file.specs.SlotRows.{IsShortRow};
+ghost use Rattle.task_file.specs.Slots as spec;
+ghost use Rattle.task_file.specs.Verdict.{Gives, each_from};
+
+use crate::fault::FileFault;
+use crate::path::{Key, Section};
+use crate::places::of_entry;
+use crate::sections::RawSlot;
+use rcp_base::{List, Name};
+use rcp_model::SlotRow;
+use std::alloc::Global;
+
+/// The slots by numbers, where each entry is a name.
+#[tactic(auto, unfolding(crate::specs::Slots::slot_rows_of))]
+pub fn slot_rows_of(
+    alloc: Global,
+    tasks: &[Name],
+    cells: &[Name],
+    slots: &[RawSlot<'_>],
+) -> Result<List<SlotRow>, FileFault>
+    requires tasks { length tasks.now ≤ 128 }
+    requires cells { length cells.now ≤ 64 }
+    requires slots { length slots.now ≤ 32 }
+    requires short { All IsShortSlot (map slot_view slots.now) }
+    ensures rows { Gives (λ rows. rows) result (spec.slot_rows_of tasks.now cells.now (map slot_view slots.now)) }
+    ensures count { IfOk result (λ rows. length rows ≤ 32) }
+    ensures short { IfOk result (λ rows. All IsShortRow rows) }
+{
+    let mut rows = List::new(alloc);
+    for (i, slot) in slots.iter().enumerate() {
+        rows.push(slot_row_of(alloc, tasks, cells, i, slot)?)?;
+    }
+    Ok(rows)
+}
+
+fn slot_row_of(
+    alloc: Global,
+    tasks: &[Name],
+    cells: &[Name],
+    i: usize,
+    slot: &RawSlot<'_>,
+) -> Result<SlotRow, FileFault>
+    requires tasks { length tasks.now ≤ 128 }
+    requires cells { length cells.now ≤ 64 }
+    requires i { i ≤ 32 }
+    requires short { IsShortSlot (slot_view slot.now) }
+    ensures row { Gives (λ row. row) result (spec.slot_row_of tasks.now cells.now i (slot_view slot.now)) }
+    ensures short { IfOk result IsShortRow }
+{
+    let runs = numbers_of(alloc, tasks, i, Key::Tasks, slot.tasks.as_slice())?;
+    let votes = numbers_of(alloc, cells, i, Key::Votes, slot.votes.as_slice())?;
+    Ok(SlotRow { tasks: runs, votes })
+}
+
+// The numbers of the names of a list.
+fn numbers_of(
+    alloc: Global,
+    names: &[Name],
+    i: usize,
+    at: Key,
+    entries: &[&str],
+) -> Result<List<u16>, FileFault>
+    requires names { length names.now ≤ 128 }
+    requires i { i ≤ 32 }
+    requires entries { length entries.now ≤ 128 }
+    ensures numbers { Gives (λ numbers. numbers) result (each_from (spec.number_of names.now i at) 0 (map (λ entry. entry.now) entries.now)) }
+    ensures count { IfOk result (λ numbers. length numbers ≡ length entries.now) }
+{
+    let mut numbers = List::new(alloc);
+    for (j, entry) in entries.iter().enumerate() {
+        numbers.push(number_of(names, i, at, j, *entry)?)?;
+    }
+    Ok(numbers)
+}
+
+fn number_of(names: &[Name], i: usize, at: Key, j: usize, entry: &str) -> Result<u16, FileFault>
+    requires names { length names.now ≤ 128 }
+    requires i { i ≤ 32 }
+    requires j { j ≤ 128 }
+    ensures { Gives (λ number. number) result (spec.number_of names.now i at j entry.now) }
+{
+    match position_of(names, entry) {
+        Some(number) => Ok(number as u16),
+        None => Err(FileFault::UnknownInSlot {
+            path: of_entry(Section::Slot, i as u32, at, j as u32),
+        }),
+    }
+}
+
+// The place of a text among names.
+fn position_of(names: &[Name], text: &str) -> Option<usize>
+    ensures place { result ≡ position (bytes_eq text.now) names.now }
+    ensures within { IfSome result (λ place. place < length names.now) }
+{
+    names
+        .iter()
+        .position(|name| text.as_bytes() == name.bytes())
+}
