@@ -1,3 +1,3 @@
 mod CountLemmas
 mod TaskLemmas
-mod PlanLemmas
+pub mod PlanLemmas

@@ -8,7 +8,7 @@ mod programs;
 mod table;
 mod write_back;
 
-pub use table::Table;
+pub use table::{Table, table_of};
 
 #[cfg(test)]
 mod tests;

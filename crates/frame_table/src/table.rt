@@ -10,7 +10,7 @@ use crate::build::slots_of;
 use crate::commands::Commands;
 use crate::programs::Programs;
 use rcp_base::{List, Memory};
-use rcp_model::PlanParts;
+use rcp_model::{Plan, PlanParts};
 use std::alloc::Global;
 
 /// What runs in each slot and what each actuator is commanded. Running it takes no memory.
@@ -23,34 +23,41 @@ pub struct Table {
 
 impl Table {
     /// The table of a plan.
-    pub fn new(alloc: Global, plan: &PlanParts) -> Result<Table, Memory>
+    pub fn new(alloc: Global, plan: &Plan) -> Result<Table, Memory>
         ensures { IfOk result (IsOf plan.now) }
     {
-        Ok(Table {
-            programs: Programs::new(alloc, plan.tasks.as_slice())?,
-            slots: slots_of(alloc, plan.slots.as_slice())?,
-            commands: Commands::new(alloc, plan.actuators.as_slice())?,
-        })
+        table_of(alloc, plan.parts())
     }
 
     /// Runs the tasks of a slot. A slot that isn't there changes nothing.
-    pub fn run_slot(&mut self, slot: usize, sensors: &[i64], cells: &mut [i64])
+    pub fn run_slot(&mut self, slot: u32, sensors: &[i64], cells: &mut [i64])
         ensures cells { (plan : PlanParts) → IsOf plan self.old → cells.new ≡ cells_after_slot plan slot sensors.now cells.old }
         ensures table { self.new ≡ self.old }
     {
-        let numbers = numbers_of(self.slots.as_slice(), slot);
+        let numbers = numbers_of(self.slots.as_slice(), slot as usize);
         self.programs.run(numbers, sensors, cells);
     }
 
     /// The value that an actuator is commanded.
     #[tactic(auto, using(crate::proofs::PlanLemmas::value_is))]
-    pub fn command(&mut self, actuator: usize, sensors: &[i64], cells: &[i64]) -> i64
+    pub fn command(&mut self, actuator: u32, sensors: &[i64], cells: &[i64]) -> i64
         requires { actuator < length self.old.commands }
         ensures value { (plan : PlanParts) (d : ActuatorRow) → IsOf plan self.old → result ≡ actuator_value (slice_index_or plan.actuators actuator d) sensors.now cells.now }
         ensures table { self.new ≡ self.old }
     {
-        self.commands.value(actuator, sensors, cells)
+        self.commands.value(actuator as usize, sensors, cells)
     }
+}
+
+/// The table of parts, whether or not they keep the rules of a plan.
+pub fn table_of(alloc: Global, parts: &PlanParts) -> Result<Table, Memory>
+    ensures { IfOk result (IsOf parts.now) }
+{
+    Ok(Table {
+        programs: Programs::new(alloc, parts.tasks.as_slice())?,
+        slots: slots_of(alloc, parts.slots.as_slice())?,
+        commands: Commands::new(alloc, parts.actuators.as_slice())?,
+    })
 }
 
 // The numbers of a slot's tasks.

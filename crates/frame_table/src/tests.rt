@@ -2,7 +2,7 @@
 //! This project's own.
 ghost use Rattle.std.specs.Prelude.{◌≡◌, IfOk, length};
 
-use crate::Table;
+use crate::table_of;
 use rcp_base::{List, Name};
 use rcp_model::{ActuatorRow, Expr, Op, PlanParts, SetRow, SlotRow, Task, Timing, Variable};
 use sqlite_items::Boxed;
@@ -102,7 +102,7 @@ fn plan(alloc: Global) -> Result<PlanParts, Fail>
 #[test]
 fn a_slot_runs_its_tasks_in_order(rt: HostRuntime) -> Result<(), Fail> {
     let plan = plan(rt.alloc())?;
-    let mut table = Table::new(rt.alloc(), &plan)?;
+    let mut table = table_of(rt.alloc(), &plan)?;
     let mut cells = [7, 20];
     table.run_slot(0, &[5], &mut cells);
     assert_eq!(rt; cells, [10, 18]);
@@ -117,7 +117,7 @@ fn a_slot_runs_its_tasks_in_order(rt: HostRuntime) -> Result<(), Fail> {
 #[test]
 fn an_actuator_is_commanded_over_the_cells(rt: HostRuntime) -> Result<(), Fail> {
     let plan = plan(rt.alloc())?;
-    let mut table = Table::new(rt.alloc(), &plan)?;
+    let mut table = table_of(rt.alloc(), &plan)?;
     assert_eq!(rt; table.command(0, &[5], &[10, 28]), 23);
     Ok(())
 }
