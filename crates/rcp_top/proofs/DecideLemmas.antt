@@ -1,5 +1,5 @@
 -- What is due behind each read, where the folder tells its files.
-use Rattle.std.proofs.Common.{◌≡◌, ◌⊎◌, ℕ, ◌<◌, ◌≤◌, List, [], ◌∷◌, length, cond, Option, Some, None, Result, Ok, Err, IfOk, refl, inl, inr, sym, ap, ◌∙◌, subst, arith}
+use Rattle.std.proofs.Common.{false, ◌≡◌, ◌⊎◌, ℕ, ◌<◌, ◌≤◌, List, [], ◌∷◌, length, cond, Option, Some, None, Result, Ok, Err, IfOk, refl, inl, inr, sym, ap, ◌∙◌, subst, arith}
 use Rattle.std.proofs.lemmas.Bool.{lt-leb}
 use Rattle.rcp_base.specs.declared.memory.Memory.{Memory}
 use Rattle.rcp_base.specs.Files.{Files, IfTold, IsLonger, IsMissing, Rises}
@@ -7,15 +7,17 @@ use Rattle.rcp_model.specs.declared.plan.PlanParts.{PlanParts}
 use Rattle.rcp_top.specs.declared.answer.Answer.{Answer}
 use Rattle.rcp_top.specs.declared.answer.Answer.TheVariants as answer
 use Rattle.rcp_top.specs.declared.unread.Unread.TheVariants.{Unbuilt}
-use Rattle.rcp_top.specs.declared.task_fault.TaskFault.{TaskFault}
-use Rattle.rcp_top.specs.declared.task_fault.TaskFault.TheVariants as fault
-use Rattle.rcp_top.specs.TaskFault.{of_part}
+use Rattle.task_file.specs.declared.fault.FileFault.{FileFault}
+use Rattle.task_file.specs.declared.fault.FileFault.TheVariants as fault
+use Rattle.task_file.specs.Verdict.{Verdict, IsFault}
+use Rattle.task_file.specs.Verdict.{◌>>=◌}
+use Rattle.task_file.specs.Shape.{sections_of}
+use Rattle.task_file.specs.TaskFile.{task_file_verdict, document_of, parts_in}
 use Rattle.rcp_top.specs.Ending.{EndsOverSeen, HasCause}
-use Rattle.rcp_top.specs.Outcome.{ideal_words, file_words, files_named, of_words, outcome_of_answer, of_frames, of_plan, of_fault, unreadable, usage, journal_refused, task_refused}
+use Rattle.rcp_top.specs.Lines.{is_memory}
+use Rattle.rcp_top.specs.Outcome.{ideal_words, file_words, files_named, of_words, outcome_of_answer, of_frames, of_plan, unreadable, usage, journal_refused, task_refused}
 use Rattle.rcp_top.specs.Seen.{IsOfJournal, IsOfPlan, IsOfFiles}
-use Rattle.rcp_top.specs.SmallFile.{small_file, document_in, document_parts}
 use Rattle.rcp_top.specs.SmallJournal.{small_journal, frames_of_records, records_of}
-use Rattle.rcp_top.specs.Unread.{◌>>=◌}
 use Rattle.rcp_top.proofs.SeenLemmas.{seen_files, seen_more}
 
 -- a journal over the limit is refused
@@ -24,10 +26,10 @@ unfolding small_journal
 long_journal bytes longer = ap (λ b. cond b (frames_of_records (records_of bytes)) (Err Unbuilt)) (lt-leb (length bytes) 67108864 longer)
 
 -- a task file over the limit is refused
-long_file : (bytes : List ℕ) → 1048576 < length bytes → small_file bytes ≡ Err fault.Unbuilt
-unfolding small_file
+long_file : (bytes : List ℕ) → 1048576 < length bytes → task_file_verdict bytes ≡ Err fault.TooLong
+unfolding task_file_verdict
 long_file bytes longer =
-    ap (λ b. cond b (of_part (document_in bytes) >>= document_parts) (Err fault.Unbuilt)) (lt-leb (length bytes) 1048576 longer)
+    ap (λ b. cond b (document_of bytes >>= sections_of >>= parts_in) (Err fault.TooLong)) (lt-leb (length bytes) 1048576 longer)
 
 pub journal_was_read : (told : Option Files) (plan : PlanParts) (journal bytes : List ℕ) (failed : Type 0) (result : Result Answer Memory)
     → IfTold told (λ files. files journal ≡ Some bytes) → IfOk result (λ answer. outcome_of_answer answer ≡ of_frames plan (small_journal bytes))
@@ -45,11 +47,34 @@ journal_was_too_long (Some files) plan journal failed long = record {
   is_due = ap (of_frames plan) (sym (long_journal long.bytes long.longer));
 }
 
-pub file_was_none : (told : Option Files) (journal : List ℕ) (given : Result PlanParts TaskFault) (failed : Type 0) (why : TaskFault)
-    → given ≡ Err why → IfTold told (λ files. IsOfPlan journal (files journal) failed given (of_fault why))
-file_was_none None journal given failed why none = tt
-file_was_none (Some files) journal given failed why none =
-    record { seen = files journal; is_seen = inl refl; is_due = ap (of_plan journal (files journal)) (sym none) }
+-- a fault that is not want of memory is the definition's
+fault_is_due : {Y : Type 0} (why : FileFault) (said : Verdict Y) → is_memory why ≡ false → IsFault why said → said ≡ Err why
+fault_is_due fault.Memory said wanted is = cc
+fault_is_due fault.TooLong said wanted is = is
+fault_is_due fault.NotToml said wanted is = is
+fault_is_due (fault.Shape path) said wanted is = is
+fault_is_due (fault.BadName path) said wanted is = is
+fault_is_due (fault.Syntax path byte) said wanted is = is
+fault_is_due (fault.UnknownName path byte) said wanted is = is
+fault_is_due (fault.BadTarget path byte) said wanted is = is
+fault_is_due (fault.UnknownInSlot path) said wanted is = is
+fault_is_due (fault.SlotClash path) said wanted is = is
+fault_is_due (fault.Timing rule) said wanted is = is
+
+pub file_was_refused : (told : Option Files) (journal : List ℕ) (given : Verdict PlanParts) (failed : Type 0) (why : FileFault) → is_memory why ≡ false
+    → IsFault why given → IfTold told (λ files. IsOfPlan journal (files journal) failed given (task_refused why))
+file_was_refused None journal given failed why wanted is = tt
+file_was_refused (Some files) journal given failed why wanted is =
+    record { seen = files journal; is_seen = inl refl; is_due = ap (of_plan journal (files journal)) (sym (fault_is_due why given wanted is)) }
+
+-- a task file was read as a plan
+pub plan_was_read : (told : Option Files) (plan : PlanParts) (journal : List ℕ) (given : Verdict PlanParts) (failed : Type 0) (result : Result Answer Memory)
+    → given ≡ Ok plan → IfOk result (λ answer. IfTold told (λ files. IsOfJournal plan journal (files journal) failed (outcome_of_answer answer)))
+    → IfOk result (λ answer. IfTold told (λ files. IsOfPlan journal (files journal) failed given (outcome_of_answer answer)))
+plan_was_read told plan journal given failed (Err e) is due = tt
+plan_was_read None plan journal given failed (Ok answer) is due = tt
+plan_was_read (Some files) plan journal given failed (Ok answer) is due =
+    record { seen = due.seen; is_seen = due.is_seen; is_due = due.is_due ∙ ap (of_plan journal due.seen) (sym is) }
 
 rises_since : (a b c : ℕ) → a ≤ b → Rises b c → Rises a c
 rises_since a b c later rises = omega (arith, later, rises)
@@ -59,8 +84,7 @@ cause_since_count : (told : Option Files) (before between now : ℕ) (words : Li
 cause_since_count told before between now words (answer.Unreadable name) later (inl rises) = inl (rises_since before between now later rises)
 cause_since_count told before between now words (answer.Unreadable name) later (inr missing) = inr missing
 cause_since_count told before between now words answer.Usage later cause = tt
-cause_since_count told before between now words answer.TaskRefused later cause = tt
-cause_since_count told before between now words (answer.TextRefused place text byte) later cause = tt
+cause_since_count told before between now words (answer.TaskRefused why) later cause = tt
 cause_since_count told before between now words answer.JournalRefused later cause = tt
 cause_since_count told before between now words (answer.Ideal plan frames) later cause = tt
 
@@ -74,13 +98,13 @@ cause_since told told_then before between now words (Ok given) same later cause 
 
 pub file_was_read : (told told_then : Option Files) (file journal bytes : List ℕ) (before between now : ℕ) (result : Result Answer Memory)
     → told_then ≡ told → before ≤ between → IfTold told (λ files. files file ≡ Some bytes)
-    → IfOk result (λ answer. IfTold told_then (λ files. IsOfPlan journal (files journal) (Rises between now) (small_file bytes) (outcome_of_answer answer)))
+    → IfOk result (λ answer. IfTold told_then (λ files. IsOfPlan journal (files journal) (Rises between now) (task_file_verdict bytes) (outcome_of_answer answer)))
     → IfOk result (λ answer. IfTold told (λ files. IsOfFiles file journal (files file) (files journal) (Rises before now) (outcome_of_answer answer)))
 file_was_read told told_then file journal bytes before between now (Err e) same later held due = tt
 file_was_read None told_then file journal bytes before between now (Ok answer) same later held due = tt
 file_was_read (Some files) told_then file journal bytes before between now (Ok answer) same later held due =
     let P : Option Files → Type 0 =
-    λ told. IfTold told (λ files. IsOfPlan journal (files journal) (Rises between now) (small_file bytes) (outcome_of_answer answer))
+    λ told. IfTold told (λ files. IsOfPlan journal (files journal) (Rises between now) (task_file_verdict bytes) (outcome_of_answer answer))
     in
     let of = subst P same due in
     record {
@@ -93,7 +117,7 @@ file_was_read (Some files) told_then file journal bytes before between now (Ok a
 
 pub file_was_too_long : (told : Option Files) (file journal : List ℕ) (failed : Type 0)
     → IfTold told (λ files. IsLonger files file 1048576)
-    → IfTold told (λ files. IsOfFiles file journal (files file) (files journal) failed task_refused)
+    → IfTold told (λ files. IsOfFiles file journal (files file) (files journal) failed (task_refused fault.TooLong))
 file_was_too_long None file journal failed long = tt
 file_was_too_long (Some files) file journal failed long = record {
   file_seen = Some long.bytes;

@@ -1,5 +1,3 @@
-mod DocumentLemmas
-mod TextLemmas
 mod RecordLemmas
 mod DigitLemmas
 mod JournalLemmas

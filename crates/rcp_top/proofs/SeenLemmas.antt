@@ -1,15 +1,15 @@
 -- What is due over the files that were seen.
-use Rattle.std.proofs.Common.{◌≡◌, ℕ, List, Bool, true, false, cond, Option, Some, None, Result, Ok, Err, refl, inl, inr, sym, ap, ◌∙◌, subst}
+use Rattle.std.proofs.Common.{◌≡◌, ℕ, List, Bool, true, false, cond, Option, Some, None, Ok, Err, refl, inl, inr, sym, ap, ◌∙◌, subst}
 use Rattle.std.proofs.lemmas.Slice.Eq.{bytes_eq-Decides}
 use Rattle.std.specs.Bool.{Decides}
 use Rattle.std.specs.Str.{bytes_eq}
 use Rattle.rcp_base.specs.Files.{Files}
 use Rattle.rcp_model.specs.declared.plan.PlanParts.{PlanParts}
-use Rattle.rcp_top.specs.declared.task_fault.TaskFault.{TaskFault}
+use Rattle.task_file.specs.Verdict.{Verdict}
 use Rattle.rcp_top.specs.Ending.{IsSeen}
 use Rattle.rcp_top.specs.Outcome.{Outcome, of_plan, of_files, unreadable}
 use Rattle.rcp_top.specs.Seen.{IsOfFiles}
-use Rattle.rcp_top.specs.SmallFile.{small_file}
+use Rattle.task_file.specs.TaskFile.{task_file_verdict}
 
 -- by whether two names are one
 by_names : {X : Type 0} (a b : List ℕ) → (bytes_eq a b ≡ true → a ≡ b → X) → (bytes_eq a b ≡ false → (a ≡ b → ⊥) → X) → X
@@ -91,9 +91,9 @@ seen_as_missing file journal files failed due fault is = record {
 seen_once : (name : List ℕ) (files : Files) (failed : Type 0) (held : Option (List ℕ)) (due : Outcome) → files name ≡ held → failed
     → due ≡ of_files name name held None → SeenFiles name name files failed due
 seen_once name files failed None due is fault is_due = seen_as_missing name name files failed due fault is_due
-seen_once name files failed (Some bytes) due is fault is_due = by_plan (small_file bytes) refl
+seen_once name files failed (Some bytes) due is fault is_due = by_plan (task_file_verdict bytes) refl
   where
-    by_plan : (given : Result PlanParts TaskFault) → small_file bytes ≡ given → SeenFiles name name files failed due
+    by_plan : (given : Verdict PlanParts) → task_file_verdict bytes ≡ given → SeenFiles name name files failed due
     by_plan (Ok plan) given_is = seen_as_missing name name files failed due fault (is_due ∙ ap (of_plan name None) given_is)
     by_plan (Err unread) given_is = record {
       seen = files;

@@ -36,8 +36,7 @@ IsMissingOne told (name ∷ names) = IsMissing told name ⊎ IsMissingOne told n
 abbrev pub HasCause : Option Files → ℕ → ℕ → List (List ℕ) → Answer → Type 0
 HasCause told before now names (answer.Unreadable word) = Rises before now ⊎ IsMissingOne told names
 HasCause told before now names answer.Usage = ⊤
-HasCause told before now names answer.TaskRefused = ⊤
-HasCause told before now names (answer.TextRefused place fault byte) = ⊤
+HasCause told before now names (answer.TaskRefused fault) = ⊤
 HasCause told before now names answer.JournalRefused = ⊤
 HasCause told before now names (answer.Ideal plan frames) = ⊤
 

@@ -1,8 +1,4 @@
 pub mod Unread
-pub mod TaskFault
-pub mod Document
-pub mod SmallFile
-pub mod SectionViews
 pub mod SmallJournal
 pub mod Lines
 pub mod Outcome

@@ -1,11 +1,10 @@
 -- The lines that are printed, each with its line feed.
-use Rattle.std.specs.Prelude.{ℕ, ℤ, List, ◌∷◌, ◌++◌, codes, flat_map}
+use Rattle.std.specs.Prelude.{ℕ, ℤ, Bool, true, false, List, [], ◌∷◌, ◌++◌, codes, flat_map}
 use Rattle.std.specs.Fmt.{decimal, signed_decimal}
 use Rattle.rcp_model.specs.Uniprocessor.{ProcessorState}
-use Rattle.rcp_top.specs.declared.task_fault.TextFault.{TextFault}
-use Rattle.rcp_top.specs.declared.task_fault.TextFault.TheVariants.{Syntax, UnknownName, BadTarget}
-use Rattle.rcp_top.specs.declared.task_fault.TextPlace.{TextPlace}
-use Rattle.rcp_top.specs.declared.task_fault.TextPlace.TheVariants.{Body, Value}
+use Rattle.task_file.specs.declared.fault.FileFault.{FileFault}
+use Rattle.task_file.specs.declared.fault.FileFault.TheVariants as fault
+use Rattle.task_file.specs.PathText.{path_text}
 
 -- each number behind a space
 abbrev pub spaced : List ℤ → List ℕ
@@ -35,22 +34,29 @@ unreadable_line word = codes "unreadable: " ++ word ++ codes "\n"
 unfoldable pub usage_line : List ℕ
 usage_line = codes "usage: ideal FILE JOURNAL | check FILE | thin FILE | replay FILE JOURNAL [rs|ds|da] | events FILE JOURNAL first|last | summary FILE JOURNAL | gen FILE NUMBER FRAMES\n"
 
--- until the whole formats are read, a refusal of a file's shape has this one line
-unfoldable pub task_refused_line : List ℕ
-task_refused_line = codes "task file refused: unbuilt\n"
+-- memory was wanting
+abbrev pub is_memory : FileFault → Bool
+is_memory fault.Memory = true
+is_memory _ = false
 
-abbrev pub code_of : TextFault → List ℕ
-code_of Syntax = codes "E05"
-code_of UnknownName = codes "E06"
-code_of BadTarget = codes "E07"
+-- the code of a fault, with its place; want of memory is never printed
+abbrev pub fault_text : FileFault → List ℕ
+fault_text fault.TooLong = codes "E01"
+fault_text fault.NotToml = codes "E02"
+fault_text (fault.Shape path) = codes "E03 " ++ path_text path
+fault_text (fault.BadName path) = codes "E04 " ++ path_text path
+fault_text (fault.Syntax path byte) = codes "E05 " ++ path_text path ++ codes " byte " ++ decimal byte
+fault_text (fault.UnknownName path byte) = codes "E06 " ++ path_text path ++ codes " byte " ++ decimal byte
+fault_text (fault.BadTarget path byte) = codes "E07 " ++ path_text path ++ codes " byte " ++ decimal byte
+fault_text (fault.UnknownInSlot path) = codes "E08 " ++ path_text path
+fault_text (fault.SlotClash path) = codes "E09 " ++ path_text path
+fault_text (fault.Timing rule) = codes "E10 rule " ++ decimal rule
+fault_text fault.Memory = []
 
-abbrev pub path_of : TextPlace → List ℕ
-path_of Body = codes "task[0].body"
-path_of Value = codes "actuator[0].value"
+-- `task file refused: FAULT`
+unfoldable pub task_refused_line : FileFault → List ℕ
+task_refused_line fault = codes "task file refused: " ++ fault_text fault ++ codes "\n"
 
--- `task file refused: E05 PATH byte N`
-unfoldable pub text_refused_line : TextPlace → TextFault → ℕ → List ℕ
-text_refused_line place fault byte = codes "task file refused: " ++ code_of fault ++ codes " " ++ path_of place ++ codes " byte " ++ decimal byte ++ codes "\n"
-
+-- until the whole format is read, a refusal of a journal has this one line
 unfoldable pub journal_refused_line : List ℕ
 journal_refused_line = codes "journal refused: unbuilt\n"

@@ -5,17 +5,15 @@ use Rattle.rcp_base.specs.Files.{Files}
 use Rattle.rcp_model.specs.declared.plan.ActuatorRow.{ActuatorRow}
 use Rattle.rcp_model.specs.declared.plan.PlanParts.{PlanParts}
 use Rattle.rcp_model.specs.Uniprocessor.{ProcessorState, initial_values, ideal_state, ideal_command}
+use Rattle.task_file.specs.declared.fault.FileFault.{FileFault}
+use Rattle.task_file.specs.Verdict.{Verdict}
+use Rattle.task_file.specs.TaskFile.{task_file_verdict}
 use Rattle.rcp_top.specs.declared.answer.Answer.{Answer}
 use Rattle.rcp_top.specs.declared.answer.Answer.TheVariants as answer
 use Rattle.rcp_top.specs.declared.status.Status.{Status}
 use Rattle.rcp_top.specs.declared.status.Status.TheVariants as status
-use Rattle.rcp_top.specs.declared.task_fault.TextPlace.{TextPlace}
-use Rattle.rcp_top.specs.declared.task_fault.TextFault.{TextFault}
-use Rattle.rcp_top.specs.declared.task_fault.TaskFault.{TaskFault}
-use Rattle.rcp_top.specs.declared.task_fault.TaskFault.TheVariants as fault
 use Rattle.rcp_top.specs.declared.unread.Unread.{Unread}
-use Rattle.rcp_top.specs.Lines.{frame_line, vote_line, ideal_line, end_line, unreadable_line, usage_line, task_refused_line, text_refused_line, journal_refused_line}
-use Rattle.rcp_top.specs.SmallFile.{small_file}
+use Rattle.rcp_top.specs.Lines.{frame_line, vote_line, ideal_line, end_line, unreadable_line, usage_line, task_refused_line, journal_refused_line}
 use Rattle.rcp_top.specs.SmallJournal.{small_journal}
 
 -- a status and a text
@@ -50,19 +48,9 @@ unchanged plan frames = replicate frames (initial_values plan.sensors)
 abbrev pub usage : Outcome
 usage = record { status = status.Usage; text = usage_line }
 
--- the task file has not the shape that is read
-abbrev pub task_refused : Outcome
-task_refused = record { status = status.TaskRefused; text = task_refused_line }
-
--- the task file has a text that the task language has not
-abbrev pub text_refused : TextPlace → TextFault → ℕ → Outcome
-text_refused place fault byte = record { status = status.TaskRefused; text = text_refused_line place fault byte }
-
--- the outcome of a fault of the task file; want of memory is none, and the definition of the file has none
-abbrev pub of_fault : TaskFault → Outcome
-of_fault (fault.Text place text byte) = text_refused place text byte
-of_fault fault.Unbuilt = task_refused
-of_fault fault.Memory = task_refused
+-- the task file has this fault
+abbrev pub task_refused : FileFault → Outcome
+task_refused fault = record { status = status.TaskRefused; text = task_refused_line fault }
 
 -- the journal is none
 abbrev pub journal_refused : Outcome
@@ -87,14 +75,14 @@ of_journal plan word None = unreadable word
 of_journal plan word (Some bytes) = of_frames plan (small_journal bytes)
 
 -- the outcome by what the task file gives: the parts of a plan, or a fault
-abbrev pub of_plan : List ℕ → Option (List ℕ) → Result PlanParts TaskFault → Outcome
+abbrev pub of_plan : List ℕ → Option (List ℕ) → Verdict PlanParts → Outcome
 of_plan journal held (Ok plan) = of_journal plan journal held
-of_plan journal held (Err fault) = of_fault fault
+of_plan journal held (Err fault) = task_refused fault
 
 -- the outcome by what is held under the words of the task file and of the journal
 abbrev pub of_files : List ℕ → List ℕ → Option (List ℕ) → Option (List ℕ) → Outcome
 of_files file journal None journal_held = unreadable file
-of_files file journal (Some bytes) journal_held = of_plan journal journal_held (small_file bytes)
+of_files file journal (Some bytes) journal_held = of_plan journal journal_held (task_file_verdict bytes)
 
 -- the words of the task file and of the journal, where the words are `ideal FILE JOURNAL`
 abbrev pub ideal_words : List (List ℕ) → Option (List ℕ × List ℕ)
@@ -122,7 +110,6 @@ outcome_of words files = of_words (ideal_words words) files
 abbrev pub outcome_of_answer : Answer → Outcome
 outcome_of_answer answer.Usage = usage
 outcome_of_answer (answer.Unreadable word) = unreadable word.now
-outcome_of_answer answer.TaskRefused = task_refused
-outcome_of_answer (answer.TextRefused place fault byte) = text_refused place fault byte
+outcome_of_answer (answer.TaskRefused fault) = task_refused fault
 outcome_of_answer answer.JournalRefused = journal_refused
 outcome_of_answer (answer.Ideal plan frames) = ideal_run plan frames

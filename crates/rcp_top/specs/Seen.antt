@@ -1,9 +1,9 @@
 -- What is due, by what the reads have seen.
-use Rattle.std.specs.Prelude.{◌≡◌, ℕ, List, ⊤, Option, Result}
+use Rattle.std.specs.Prelude.{◌≡◌, ℕ, List, ⊤, Option}
 use Rattle.rcp_model.specs.declared.plan.PlanParts.{PlanParts}
 use Rattle.rcp_top.specs.declared.answer.Answer.{Answer}
 use Rattle.rcp_top.specs.declared.answer.Answer.TheVariants as answer
-use Rattle.rcp_top.specs.declared.task_fault.TaskFault.{TaskFault}
+use Rattle.task_file.specs.Verdict.{Verdict}
 use Rattle.rcp_top.specs.Ending.{IsSeen}
 use Rattle.rcp_top.specs.Outcome.{Outcome, of_journal, of_plan, of_files}
 
@@ -14,7 +14,7 @@ pub record IsOfJournal (plan : PlanParts) (journal : List ℕ) (held : Option (L
   pub is_due : due ≡ of_journal plan journal seen
 
 -- the same, of what the task file gives
-pub record IsOfPlan (journal : List ℕ) (held : Option (List ℕ)) (failed : Type 0) (given : Result PlanParts TaskFault) (due : Outcome) : Type 0 where
+pub record IsOfPlan (journal : List ℕ) (held : Option (List ℕ)) (failed : Type 0) (given : Verdict PlanParts) (due : Outcome) : Type 0 where
   pub seen : Option (List ℕ)
   pub is_seen : IsSeen held failed seen
   pub is_due : due ≡ of_plan journal seen given
@@ -31,7 +31,6 @@ pub record IsOfFiles (file journal : List ℕ) (file_held journal_held : Option 
 abbrev pub IsNotUnreadable : Answer → Type 0
 IsNotUnreadable (answer.Unreadable word) = ⊥
 IsNotUnreadable answer.Usage = ⊤
-IsNotUnreadable answer.TaskRefused = ⊤
-IsNotUnreadable (answer.TextRefused place fault byte) = ⊤
+IsNotUnreadable (answer.TaskRefused fault) = ⊤
 IsNotUnreadable answer.JournalRefused = ⊤
 IsNotUnreadable (answer.Ideal plan frames) = ⊤

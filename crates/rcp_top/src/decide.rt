@@ -2,20 +2,20 @@
 //! This project's own.
 ghost use Rattle.std.specs.Prelude.{◌≡◌, ◌≤◌, ◌∷◌, [], IfOk, map, option_map, string_bytes};
 ghost use Rattle.rcp_base.specs.Files.{IfTold, Rises};
+ghost use Rattle.task_file.specs.TaskFile.{task_file_verdict};
 ghost use Rattle.rcp_top.specs.Ending.{EndsOverSeen, HasCause};
+ghost use Rattle.rcp_top.specs.Lines.{is_memory};
 ghost use Rattle.rcp_top.specs.Outcome as spec;
 ghost use Rattle.rcp_top.specs.Seen as seen;
-ghost use Rattle.rcp_top.specs.SmallFile.{small_file};
 ghost use Rattle.rcp_top.specs.SmallJournal.{small_journal};
 
 use crate::answer::Answer;
-use crate::small_file::small_file;
 use crate::small_journal::small_journal;
-use crate::task_fault::TaskFault;
 use crate::unread::Unread;
 use rcp_base::{Folder, MAX_JOURNAL, MAX_TASK_FILE, Memory, ReadError};
-use rcp_model::PlanParts;
+use rcp_model::Plan;
 use std::alloc::Global;
+use task_file::{FileFault, read_plan};
 
 /// What the words make due.
 pub fn decide<'a, F: Folder>(
@@ -66,7 +66,7 @@ fn decide_ideal<'a, F: Folder>(
     let mut bytes = Vec::new(alloc);
     match folder.read(alloc, file, MAX_TASK_FILE, &mut bytes) {
         Ok(()) => with_task_file(alloc, bytes.as_slice(), journal, folder),
-        Err(ReadError::TooLong) => Ok(Answer::TaskRefused),
+        Err(ReadError::TooLong) => Ok(Answer::TaskRefused(FileFault::TooLong)),
         Err(ReadError::Failed) => Ok(Answer::Unreadable(file)),
         Err(ReadError::Memory) => Err(Memory),
     }
@@ -80,27 +80,33 @@ fn with_task_file<'a, F: Folder>(
     folder: &mut F,
 ) -> Result<Answer<'a>, Memory>
     ensures due { IfOk result (λ answer. IfTold (F.files folder.old) (λ files.
-        seen.IsOfPlan journal.now (files journal.now) (Rises (F.faults folder.old) (F.faults folder.new)) (small_file bytes.now) (spec.outcome_of_answer answer))) }
+        seen.IsOfPlan journal.now (files journal.now) (Rises (F.faults folder.old) (F.faults folder.new)) (task_file_verdict bytes.now) (spec.outcome_of_answer answer))) }
     ensures cause { IfOk result (HasCause (F.files folder.old) (F.faults folder.old) (F.faults folder.new) (journal.now ∷ [])) }
     ensures files { F.files folder.new ≡ F.files folder.old }
     ensures later { F.faults folder.old ≤ F.faults folder.new }
 {
-    match small_file(alloc, bytes) {
+    match read_plan(alloc, bytes) {
         Ok(plan) => with_plan(alloc, plan, journal, folder),
-        Err(TaskFault::Unbuilt) => Ok(Answer::TaskRefused),
-        Err(TaskFault::Text { place, fault, byte }) => Ok(Answer::TextRefused {
-            place,
-            fault,
-            byte,
-        }),
-        Err(TaskFault::Memory) => Err(Memory),
+        Err(fault) => {
+            if is_memory(&fault) {
+                Err(Memory)
+            } else {
+                Ok(Answer::TaskRefused(fault))
+            }
+        }
     }
+}
+
+fn is_memory(fault: &FileFault) -> bool
+    ensures { result ≡ is_memory fault.now }
+{
+    matches!(fault, FileFault::Memory)
 }
 
 // What is due of a plan, and of the journal that is then read.
 fn with_plan<'a, F: Folder>(
     alloc: Global,
-    plan: PlanParts,
+    plan: Plan,
     journal: &'a str,
     folder: &mut F,
 ) -> Result<Answer<'a>, Memory>
@@ -120,7 +126,7 @@ fn with_plan<'a, F: Folder>(
 }
 
 // What is due of a plan and a journal's bytes.
-fn with_journal<'a>(alloc: Global, plan: PlanParts, bytes: &[u8]) -> Result<Answer<'a>, Memory>
+fn with_journal<'a>(alloc: Global, plan: Plan, bytes: &[u8]) -> Result<Answer<'a>, Memory>
     ensures due { IfOk result (λ answer. spec.outcome_of_answer answer ≡ spec.of_frames plan (small_journal bytes.now)) }
     ensures read { IfOk result seen.IsNotUnreadable }
 {

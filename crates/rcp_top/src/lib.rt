@@ -4,15 +4,12 @@
 
 mod answer;
 mod decide;
-mod document;
 mod ideal;
 pub mod laws;
 mod lines;
 mod records;
-mod small_file;
 mod small_journal;
 mod status;
-mod task_fault;
 mod top;
 mod unread;
 mod write;

@@ -1,12 +1,13 @@
 //! The lines that are printed, each with its line feed.
 //! This project's own.
-ghost use Rattle.std.specs.Prelude.{◌≡◌, ◌++◌, OnOk, IfOk};
+ghost use Rattle.std.specs.Prelude.{◌≡◌, ◌++◌, codes, OnOk, IfOk};
 ghost use Rattle.std.specs.Fmt.{decimal, signed_decimal};
+ghost use Rattle.task_file.specs.PathText.{path_text};
 ghost use Rattle.rcp_top.specs.Lines as spec;
 
-use crate::task_fault::{TextFault, TextPlace};
 use rcp_base::{Memory, Name};
 use std::alloc::Global;
+use task_file::{FileFault, Path, path_text};
 
 fn put(line: &mut Vec<u8>, bytes: &[u8]) -> Result<(), Memory>
     ensures { OnOk result (line.new.items ≡ line.old.items ++ bytes.now) }
@@ -101,44 +102,58 @@ pub fn unreadable_line(alloc: Global, word: &str) -> Result<Vec<u8>, Memory>
     Ok(line)
 }
 
-/// `task file refused: E05 PATH byte N`
-#[tactic(auto, unfolding(crate::specs::Lines::text_refused_line))]
-pub fn text_refused_line(
-    alloc: Global,
-    place: TextPlace,
-    fault: TextFault,
-    byte: u32,
-) -> Result<Vec<u8>, Memory>
-    ensures { IfOk result (λ line. line.items ≡ spec.text_refused_line place fault byte) }
+/// `task file refused: FAULT`
+#[tactic(auto, unfolding(crate::specs::Lines::task_refused_line))]
+pub fn task_refused_line(alloc: Global, fault: FileFault) -> Result<Vec<u8>, Memory>
+    ensures { IfOk result (λ line. line.items ≡ spec.task_refused_line fault) }
 {
     let mut line = Vec::new(alloc);
     put(&mut line, b"task file refused: ")?;
-    put(&mut line, code_of(fault))?;
-    put(&mut line, b" ")?;
-    put(&mut line, path_of(place))?;
-    put(&mut line, b" byte ")?;
-    put_count(alloc, &mut line, byte as u64)?;
+    put_fault(alloc, &mut line, fault)?;
     put(&mut line, b"\n")?;
     Ok(line)
 }
 
-fn code_of(fault: TextFault) -> &'static [u8]
-    ensures { result.now ≡ spec.code_of fault }
+fn put_fault(alloc: Global, line: &mut Vec<u8>, fault: FileFault) -> Result<(), Memory>
+    ensures { OnOk result (line.new.items ≡ line.old.items ++ spec.fault_text fault) }
 {
     match fault {
-        TextFault::Syntax => b"E05",
-        TextFault::UnknownName => b"E06",
-        TextFault::BadTarget => b"E07",
+        FileFault::TooLong => put(line, b"E01"),
+        FileFault::NotToml => put(line, b"E02"),
+        FileFault::Shape { path } => put_place(alloc, line, b"E03 ", &path),
+        FileFault::BadName { path } => put_place(alloc, line, b"E04 ", &path),
+        FileFault::Syntax { path, byte } => put_byte(alloc, line, b"E05 ", &path, byte),
+        FileFault::UnknownName { path, byte } => put_byte(alloc, line, b"E06 ", &path, byte),
+        FileFault::BadTarget { path, byte } => put_byte(alloc, line, b"E07 ", &path, byte),
+        FileFault::UnknownInSlot { path } => put_place(alloc, line, b"E08 ", &path),
+        FileFault::SlotClash { path } => put_place(alloc, line, b"E09 ", &path),
+        FileFault::Timing { rule } => {
+            put(line, b"E10 rule ")?;
+            put_count(alloc, line, rule as u64)
+        }
+        FileFault::Memory => Ok(()),
     }
 }
 
-fn path_of(place: TextPlace) -> &'static [u8]
-    ensures { result.now ≡ spec.path_of place }
+fn put_place(alloc: Global, line: &mut Vec<u8>, code: &[u8], path: &Path) -> Result<(), Memory>
+    ensures { OnOk result (line.new.items ≡ line.old.items ++ (code.now ++ path_text path.now)) }
 {
-    match place {
-        TextPlace::Body => b"task[0].body",
-        TextPlace::Value => b"actuator[0].value",
-    }
+    put(line, code)?;
+    put(line, path_text(alloc, path)?.as_slice())
+}
+
+fn put_byte(
+    alloc: Global,
+    line: &mut Vec<u8>,
+    code: &[u8],
+    path: &Path,
+    byte: u32,
+) -> Result<(), Memory>
+    ensures { OnOk result (line.new.items ≡ line.old.items ++ (code.now ++ path_text path.now ++ codes " byte " ++ decimal byte)) }
+{
+    put_place(alloc, line, code, path)?;
+    put(line, b" byte ")?;
+    put_count(alloc, line, byte as u64)
 }
 
 /// All forms of words, built or not.
@@ -147,13 +162,6 @@ pub fn usage_line() -> &'static [u8]
     ensures { result.now ≡ spec.usage_line }
 {
     b"usage: ideal FILE JOURNAL | check FILE | thin FILE | replay FILE JOURNAL [rs|ds|da] | events FILE JOURNAL first|last | summary FILE JOURNAL | gen FILE NUMBER FRAMES\n"
-}
-
-#[tactic(auto, unfolding(crate::specs::Lines::task_refused_line))]
-pub fn task_refused_line() -> &'static [u8]
-    ensures { result.now ≡ spec.task_refused_line }
-{
-    b"task file refused: unbuilt\n"
 }
 
 #[tactic(auto, unfolding(crate::specs::Lines::journal_refused_line))]

@@ -1,22 +1,14 @@
 //! What the program prints, with expected values that were worked by hand from the rules.
 //! This project's own.
-mod plans;
+mod files;
 
-use crate::ideal::write_ideal;
 use crate::{Status, rcp};
-use plans::plan_of;
-use rcp_base::{Sink, SureFolder, SureSink, WriteError};
+use files::{COUNTER, MOTOR, PITCH};
+use rcp_base::{MemFolder, MemSink, Sink, SureFolder, SureSink, WriteError};
 use std::alloc::{AllocError, Global};
 use std::process::Abort;
+use std::str;
 use std::test::Fail;
-
-const COUNTER: &str = r#"replicas = 3
-timing = { compute = 30000 }
-cell = [{ name = "n", initial = 0 }]
-task = [{ name = "count", body = "n := n + 1;" }]
-slot = [{ tasks = ["count"], votes = ["n"] }]
-actuator = [{ name = "out", value = "n" }]
-"#;
 
 const TWO_FRAMES: &str = "frame,kind,a,b,c,d\n2,end,,,,\n";
 
@@ -32,41 +24,66 @@ end 2
 const USAGE: &str =
     "usage: ideal FILE JOURNAL | check FILE | thin FILE | replay FILE JOURNAL [rs|ds|da] | events FILE JOURNAL first|last | summary FILE JOURNAL | gen FILE NUMBER FRAMES\n";
 
-const TASK_REFUSED: &str = "task file refused: unbuilt\n";
-
 const JOURNAL_REFUSED: &str = "journal refused: unbuilt\n";
 
-// Parts of the counter's file, and what may stand in their place.
-const ACCEPTED_PARTS: &str = r#"{ compute = 30000 } => 3.5
-replicas = 3 => replicas = "many"
+// Parts of the counter's file, and what may stand in their place. A tilde is a line feed, in all such lines.
+const ACCEPTED: &str = r#"replicas = 3 => replicas = 9~sensor = []
 initial = 0 => initial = -9223372036854775808
-["n"] => ["m", "m"]
 ["n"] => []
+["count"] => []
 name = "n", initial = 0 => initial = 0, name = "n"
+actuator = [{ name = "out", value = "n" }] => actuator = []
+actuator = [{ name = "out", value = "n" }] => 
+name = "out" => name = "n"
 n := n + 1; => n:=n+0001;
 n := n + 1; => let x = (n * 1); n := if(x < 3, x, 0);
 value = "n" => value = "clamp(n, 0, 9)"
 "#;
 
-// Parts of the counter's file, and what may not stand in their place.
-const REFUSED_PARTS: &str = r#"replicas = 3 => speed = 1
-cell = [{ name = "n", initial = 0 }] => cell = { name = "n", initial = 0 }
-initial = 0 } => initial = 0 }, { name = "m", initial = 0 }
-initial = 0 => initial = "0"
-initial = 0 => initial = 9223372036854775808
-initial = 0 => initial = 0, final = 1
-, initial = 0 => 
-name = "n" => name = "N"
-name = "n" => name = "let"
-name = "n" => name = "a23456789012345678901234567890123"
-["count"] => ["count", "count"]
-["count"] => ["other"]
-["n"] => [1]
-["n"] => "n"
-"#;
-
-// Parts of the counter's file, what stands in their place, and the fault that it has.
-const FAULTS: &str = r#"n := n + 1; =>  => E05 task[0].body byte 0
+// Parts of the counter's file, what stands in their place, and the fault that the file then has.
+const COUNTER_FAULTS: &str = r#"replicas = 3 => replicas = 10 => E03 replicas
+replicas = 3 => replicas = 0 => E03 replicas
+replicas = 3 => replicas = "3" => E03 replicas
+replicas = 3 => speed = 1 => E03 replicas
+replicas = 3 => replicas = 3~speed = 1 => E03 ?
+timing = { => clock = { => E03 timing
+timing = { => timing = 3~clock = { => E03 timing
+compute = 30000,  =>  => E03 timing.compute
+broadcast = 10000 => broadcast = true => E03 timing.broadcast
+vote = 4000 => vote = -1 => E03 timing.vote
+sync = 6000,  =>  => E03 timing.sync
+skew = 50,  =>  => E03 timing.skew
+drift_ppm = 100,  =>  => E03 timing.drift_ppm
+delay_min = 100 => delay_min = 1.5 => E03 timing.delay_min
+delay_max = 2000 => delay_max = "2" => E03 timing.delay_max
+skew_limit = 500,  =>  => E03 timing.skew_limit
+drift_limit_ppm = 500 => drift_limit_ppm = 1000000001 => E03 timing.drift_limit_ppm
+skew = 50 => skew = 50, jitter = 1 => E03 timing.?
+replicas = 3 => replicas = 3~sensor = 3 => E03 sensor
+replicas = 3 => replicas = 3~sensor = [{ name = "s" }] => E03 sensor[0].initial
+replicas = 3 => replicas = 3~sensor = [{ name = "s", initial = 0, unit = 1 }] => E03 sensor[0].?
+cell = [{ name = "n", initial = 0 }] =>  => E03 cell
+cell = [{ name = "n", initial = 0 }] => cell = [] => E03 cell
+cell = [{ name = "n", initial = 0 }] => cell = { name = "n" } => E03 cell
+cell = [{ name = "n", initial = 0 }] => cell = [3] => E03 cell[0]
+initial = 0 => initial = "0" => E03 cell[0].initial
+initial = 0 => initial = 9223372036854775808 => E02
+name = "n" => name = 7 => E03 cell[0].name
+body = => text = => E03 task[0].body
+body = => body = 3, text = => E03 task[0].body
+["count"] => "count" => E03 slot[0].tasks
+["count"] => ["count", 1] => E03 slot[0].tasks[1]
+["n"] => [true] => E03 slot[0].votes[0]
+, votes = ["n"] =>  => E03 slot[0].votes
+["n"] => ["n"], length = 1 => E03 slot[0].?
+value = "n" => value = 0 => E03 actuator[0].value
+actuator = => actuator = 3~unit = => E03 actuator
+name = "n" => name = "N" => E04 cell[0].name
+name = "n" => name = "let" => E04 cell[0].name
+name = "n" => name = "a23456789012345678901234567890123" => E04 cell[0].name
+name = "count" => name = "Count" => E04 task[0].name
+name = "out" => name = "" => E04 actuator[0].name
+n := n + 1; =>  => E05 task[0].body byte 0
 n := n + 1; => n := 9223372036854775808; => E05 task[0].body byte 5
 n := n + 1; => n := n + 1 => E05 task[0].body byte 10
 n := n + 1; => n := n < 1 < 2; => E05 task[0].body byte 11
@@ -79,6 +96,30 @@ value = "n" => value = "" => E05 actuator[0].value byte 0
 value = "n" => value = "n +" => E05 actuator[0].value byte 3
 value = "n" => value = "n;" => E05 actuator[0].value byte 1
 value = "n" => value = "1 + m" => E06 actuator[0].value byte 4
+["count"] => ["other"] => E08 slot[0].tasks[0]
+["count"] => ["count", "n"] => E08 slot[0].tasks[1]
+["n"] => ["count"] => E08 slot[0].votes[0]
+["count"] => ["count", "count"] => E09 slot[0].tasks[1]
+["n"] => ["n", "n"] => E09 slot[0].votes[1]
+compute = 30000 => compute = 0 => E10 rule 1
+delay_max = 2000 => delay_max = 9944 => E10 rule 2
+skew_limit = 500 => skew_limit = 2989 => E10 rule 4
+drift_limit_ppm = 500 => drift_limit_ppm = 1001 => E10 rule 5
+name = "n" => name = "N" && replicas = 3 => replicas = 3~speed = 1 => E03 ?
+name = "n" => name = "N" && value = "n" => value = "" => E04 cell[0].name
+value = "n" => value = "" && ["count"] => ["other"] => E05 actuator[0].value byte 0
+value = "n" => value = "" && n + 1 => m => E06 task[0].body byte 5
+["count"] => ["count", "count"] && votes = ["n"] } => votes = [] }, { tasks = ["x"], votes = [] } => E08 slot[1].tasks[0]
+["n"] => ["n", "n"] && compute = 30000 => compute = 0 => E09 slot[0].votes[1]
+"#;
+
+// The same with the file of the position loop.
+const MOTOR_FAULTS: &str = r#"name = "err" => name = "cmd" => E04 cell[1].name
+name = "integrate" => name = "sense" => E04 task[1].name
+err := cmd - pos; => err := cmd - poz; => E06 task[0].body byte 13
+pos := pos + sum / 2; => cmd := 1; => E07 task[2].body byte 0
+tasks = ["move"] => tasks = ["move", "pos"] => E08 slot[1].tasks[1]
+[[slot]]~tasks = ["sense", "integrate"] => [[task]]~name = "sense2"~body = "err := cmd;"~~[[slot]]~tasks = ["sense", "integrate", "sense2"] => E09 slot[0].tasks[2]
 "#;
 
 // Values that the counter's body may give its cell, which has 0 before.
@@ -200,7 +241,7 @@ fn words_that_are_no_form_are_refused(rt: HostRuntime) -> Result<(), Fail> {
 fn files_that_are_missing_are_unreadable(rt: HostRuntime) -> Result<(), Fail> {
     for (line, status, text) in [
         ("ideal X Y", Status::ReadFault, "unreadable: X\n"),
-        ("ideal B Y", Status::TaskRefused, TASK_REFUSED),
+        ("ideal B Y", Status::TaskRefused, "task file refused: E02\n"),
         ("ideal T Y", Status::ReadFault, "unreadable: Y\n"),
         ("ideal T T", Status::JournalRefused, JOURNAL_REFUSED),
     ] {
@@ -209,23 +250,69 @@ fn files_that_are_missing_are_unreadable(rt: HostRuntime) -> Result<(), Fail> {
     Ok(())
 }
 
-// A file with one part in place of another, by a line `OLD => NEW`.
+// A file with parts in place of others, by a line `OLD => NEW`, or more of them with `&&` between.
 fn changed(alloc: Global, file: &str, line: &str) -> Result<String, Fail> {
-    let (old, new) = line.split_once(" => ").ok_or("no change")?;
-    let (before, behind) = file.split_once(old).ok_or("no such part")?;
-    let mut text = String::from_str(alloc, before)?;
-    text.push_str(new)?;
-    text.push_str(behind)?;
+    let mut text = String::from_str(alloc, file)?;
+    for change in line.split(" && ") {
+        let (old, new) = change.split_once(" => ").ok_or("no change")?;
+        let old = old.replace(alloc, "~", "\n")?;
+        let new = new.replace(alloc, "~", "\n")?;
+        let (before, behind) = text.split_once(old.as_str()).ok_or("no such part")?;
+        text = format!(in alloc; "{before}{}{behind}", new.as_str())?;
+    }
     Ok(text)
 }
 
-#[test]
-fn other_task_files_are_refused(rt: HostRuntime) -> Result<(), Fail> {
-    for line in REFUSED_PARTS.lines() {
-        let file = changed(rt.alloc(), COUNTER, line)?;
-        let due = (Status::TaskRefused, TASK_REFUSED);
-        check(&rt, rt.alloc(), "ideal T J", file.as_str(), TWO_FRAMES, due)?;
+// Each line has changes and the fault that the file then has.
+fn faults_are_told(rt: &impl Abort, alloc: Global, file: &str, lines: &str) -> Result<(), Fail> {
+    for line in lines.lines() {
+        let (changes, fault) = line.rsplit_once(" => ").ok_or("no fault")?;
+        let file = changed(alloc, file, changes)?;
+        let text = format!(in alloc; "task file refused: {fault}\n")?;
+        let due = (Status::TaskRefused, text.as_str());
+        check(rt, alloc, "ideal T Y", file.as_str(), TWO_FRAMES, due)?;
     }
+    Ok(())
+}
+
+#[test]
+fn a_task_file_is_refused_at_its_first_fault(rt: HostRuntime) -> Result<(), Fail> {
+    faults_are_told(&rt, rt.alloc(), COUNTER, COUNTER_FAULTS)?;
+    faults_are_told(&rt, rt.alloc(), MOTOR, MOTOR_FAULTS)
+}
+
+#[test]
+fn long_files_and_texts_are_refused(rt: HostRuntime) -> Result<(), Fail> {
+    let alloc = rt.alloc();
+    let longest = "#".repeat(alloc, 1_048_576)?;
+    let longer = format!(in alloc; "{}#", longest.as_str())?;
+    let blanks = " ".repeat(alloc, 4_085)?;
+    let change = format!(in alloc; "n := n + 1; => n := n + 12;{}", blanks.as_str())?;
+    let long_body = changed(alloc, COUNTER, change.as_str())?;
+    for (file, fault) in [
+        ("", "E03 replicas"),
+        (longest.as_str(), "E03 replicas"),
+        (longer.as_str(), "E01"),
+        ("no = toml = at all", "E02"),
+        (long_body.as_str(), "E03 task[0].body"),
+    ] {
+        let text = format!(in alloc; "task file refused: {fault}\n")?;
+        let due = (Status::TaskRefused, text.as_str());
+        check(&rt, alloc, "ideal T J", file, TWO_FRAMES, due)?;
+    }
+    Ok(())
+}
+
+#[test]
+fn bytes_that_are_no_text_are_refused(rt: HostRuntime) -> Result<(), Fail> {
+    let alloc = rt.alloc();
+    let mut folder = SureFolder::new(alloc);
+    folder.put("T", b"\xff")?;
+    let words = words_of(alloc, "ideal T J")?;
+    let mut out = SureSink::new(alloc);
+    let status = rcp(alloc, words.as_slice(), &mut folder, &mut out);
+    assert_eq!(rt; status, Status::TaskRefused);
+    assert_eq!(rt; out.bytes(), b"task file refused: E02\n".as_slice());
     Ok(())
 }
 
@@ -238,10 +325,19 @@ fn status_of(alloc: Global, file: &str, journal: &str) -> Result<Status, Fail> {
 }
 
 #[test]
-fn the_smallest_task_files_are_accepted(rt: HostRuntime) -> Result<(), Fail> {
-    for line in ACCEPTED_PARTS.lines() {
-        let file = changed(rt.alloc(), COUNTER, line)?;
-        let status = status_of(rt.alloc(), file.as_str(), TWO_FRAMES)?;
+fn other_task_files_are_accepted(rt: HostRuntime) -> Result<(), Fail> {
+    let alloc = rt.alloc();
+    for line in ACCEPTED.lines() {
+        let file = changed(alloc, COUNTER, line)?;
+        let status = status_of(alloc, file.as_str(), TWO_FRAMES)?;
+        assert_eq!(rt; status, Status::Done, "{line}");
+    }
+    for line in [
+        "delay_max = 2000 => delay_max = 9943",
+        "name = \"motor\" => name = \"cmd\"",
+    ] {
+        let file = changed(alloc, MOTOR, line)?;
+        let status = status_of(alloc, file.as_str(), TWO_FRAMES)?;
         assert_eq!(rt; status, Status::Done, "{line}");
     }
     Ok(())
@@ -286,39 +382,6 @@ fn expressions_have_their_values(rt: HostRuntime) -> Result<(), Fail> {
         )?;
         let due = (Status::Done, text.as_str());
         check(&rt, alloc, "ideal T J", file.as_str(), journal, due)?;
-    }
-    Ok(())
-}
-
-#[test]
-fn texts_with_faults_are_refused_with_their_byte(rt: HostRuntime) -> Result<(), Fail> {
-    let alloc = rt.alloc();
-    for line in FAULTS.lines() {
-        let (change, fault) = line.rsplit_once(" => ").ok_or("no fault")?;
-        let file = changed(alloc, COUNTER, change)?;
-        let text = format!(in alloc; "task file refused: {fault}\n")?;
-        let due = (Status::TaskRefused, text.as_str());
-        check(&rt, alloc, "ideal T Y", file.as_str(), TWO_FRAMES, due)?;
-    }
-    Ok(())
-}
-
-#[test]
-fn the_first_fault_is_told(rt: HostRuntime) -> Result<(), Fail> {
-    let alloc = rt.alloc();
-    let body = changed(alloc, COUNTER, "n + 1 => m")?;
-    let both = changed(alloc, body.as_str(), "value = \"n\" => value = \"\"")?;
-    let text = "task file refused: E06 task[0].body byte 5\n";
-    let due = (Status::TaskRefused, text);
-    check(&rt, alloc, "ideal T J", both.as_str(), TWO_FRAMES, due)?;
-    for line in [
-        "replicas = 3 => speed = 1",
-        "[\"count\"] => [\"other\"]",
-        "\"out\" => \"Out\"",
-    ] {
-        let shape = changed(alloc, both.as_str(), line)?;
-        let due = (Status::TaskRefused, TASK_REFUSED);
-        check(&rt, alloc, "ideal T J", shape.as_str(), TWO_FRAMES, due)?;
     }
     Ok(())
 }
@@ -372,23 +435,13 @@ fn each_line_is_one_write(rt: HostRuntime) -> Result<(), Fail> {
     Ok(())
 }
 
+const FOUR_FRAMES: &str = "frame,kind,a,b,c,d\n4,end,,,,\n";
+
 #[test]
 fn the_motor_runs_as_worked(rt: HostRuntime) -> Result<(), Fail> {
     let alloc = rt.alloc();
-    let plan = plan_of(
-        alloc,
-        &[("cmd", 10)],
-        &[("pos", 0), ("err", 0), ("sum", 0)],
-        &[
-            ("sense", "", 1, "s0 c0 -"),
-            ("integrate", "", 2, "c2 c1 + 100 neg 100 clamp"),
-            ("move", "", 0, "c0 c2 2 / +"),
-        ],
-        &[&[0, 1], &[2]],
-        ("motor", 2),
-    )?;
-    let mut out = SureSink::new(alloc);
-    assert!(rt; write_ideal(alloc, &plan, 4, &mut out).is_ok());
+    let line = "name = \"cmd\"~initial = 0 => name = \"cmd\"~initial = 10";
+    let file = changed(alloc, MOTOR, line)?;
     let expected = "frame 0
 vote motor 10
 ideal slot 1 cells 0 10 10
@@ -403,34 +456,31 @@ vote motor 15
 ideal slot 0 cells 12 5 15
 end 4
 ";
-    assert_eq!(rt; out.bytes(), expected.as_bytes());
-    Ok(())
+    let due = (Status::Done, expected);
+    check(&rt, alloc, "ideal T J", file.as_str(), FOUR_FRAMES, due)?;
+    let still = "frame 0\nvote motor 0\nideal slot 1 cells 0 0 0\nend 1\n";
+    let one_frame = "frame,kind,a,b,c,d\n1,end,,,,\n";
+    check(
+        &rt,
+        alloc,
+        "ideal T J",
+        MOTOR,
+        one_frame,
+        (Status::Done, still),
+    )
 }
 
 #[test]
 fn the_pitch_control_runs_as_worked(rt: HostRuntime) -> Result<(), Fail> {
     let alloc = rt.alloc();
-    let plan = plan_of(
-        alloc,
-        &[("rate", 8), ("stick", 100)],
-        &[("q", 0), ("ref", 0), ("trim", 0), ("mode", 0), ("out", 0)],
-        &[
-            ("filter", "s0 c0 -", 0, "c0 l0 4 / +"),
-            ("shape", "", 1, "s1 3 * 900 neg 900 clamp"),
-            ("law", "", 4, "c1 c0 - 2 * c2 + 3000 neg 3000 clamp"),
-            ("moder", "", 3, "s1 abs 5 < 1 0 if"),
-            (
-                "trimmer",
-                "",
-                2,
-                "c3 1 == c2 c1 c0 - 8 / + 500 neg 500 clamp 0 if",
-            ),
-        ],
-        &[&[0, 1], &[0, 2], &[0, 3], &[0, 4]],
-        ("elevator", 4),
-    )?;
+    let line =
+        "name = \"rate\"~initial = 0 => name = \"rate\"~initial = 8 && name = \"stick\"~initial = 0 => name = \"stick\"~initial = 100";
+    let file = changed(alloc, PITCH, line)?;
+    let mut folder = folder_of(alloc, file.as_str(), FOUR_FRAMES)?;
+    let words = words_of(alloc, "ideal T J")?;
     let mut out = SureSink::new(alloc);
-    assert!(rt; write_ideal(alloc, &plan, 4, &mut out).is_ok());
+    let status = rcp(alloc, words.as_slice(), &mut folder, &mut out);
+    assert_eq!(rt; status, Status::Done);
     let text = str::from_utf8(out.bytes()).map_err(|_| "no text")?;
     let votes = text.lines().filter(|line| line.starts_with("vote "));
     assert_eq!(rt; votes.count(), 4);
@@ -443,5 +493,37 @@ fn the_pitch_control_runs_as_worked(rt: HostRuntime) -> Result<(), Fail> {
         assert_eq!(rt; line, "vote elevator 594");
     }
     assert!(rt; text.ends_with("ideal slot 0 cells 5 300 0 0 594\nend 4\n"));
+    Ok(())
+}
+
+#[test]
+fn a_write_that_fails_leaves_a_front(rt: HostRuntime) -> Result<(), Fail> {
+    let alloc = rt.alloc();
+    let line = "name = \"cmd\"~initial = 0 => name = \"cmd\"~initial = 10";
+    let file = changed(alloc, MOTOR, line)?;
+    let mut folder = folder_of(alloc, file.as_str(), FOUR_FRAMES)?;
+    let words = words_of(alloc, "ideal T J")?;
+    let mut out = MemSink::new(alloc);
+    out.fail_at(3, 5)?;
+    let status = rcp(alloc, words.as_slice(), &mut folder, &mut out);
+    assert_eq!(rt; status, Status::WriteFault);
+    assert_eq!(rt; out.bytes(), b"frame 0\nvote motor 10\nideal".as_slice());
+    Ok(())
+}
+
+#[test]
+fn a_read_that_fails_names_its_word(rt: HostRuntime) -> Result<(), Fail> {
+    let alloc = rt.alloc();
+    let words = words_of(alloc, "ideal T J")?;
+    for (call, expected) in [(1, "unreadable: T\n"), (2, "unreadable: J\n")] {
+        let mut folder = MemFolder::new(alloc);
+        folder.put("T", COUNTER.as_bytes())?;
+        folder.put("J", TWO_FRAMES.as_bytes())?;
+        folder.fail_at(call)?;
+        let mut out = SureSink::new(alloc);
+        let status = rcp(alloc, words.as_slice(), &mut folder, &mut out);
+        assert_eq!(rt; status, Status::ReadFault);
+        assert_eq!(rt; out.bytes(), expected.as_bytes());
+    }
     Ok(())
 }

@@ -2,17 +2,15 @@
 //! This project's own.
 ghost use Rattle.std.specs.Prelude.{◌≡◌, ℕ, List, IfOk};
 ghost use Rattle.rcp_top.specs.Ending.{Ends, status_after};
-ghost use Rattle.rcp_top.specs.Outcome.{outcome_of_answer, text_refused, unreadable};
+ghost use Rattle.rcp_top.specs.Outcome.{outcome_of_answer, task_refused, unreadable};
 
 use crate::answer::Answer;
 use crate::ideal::{send, write_ideal};
-use crate::lines::{
-    journal_refused_line, task_refused_line, text_refused_line, unreadable_line, usage_line,
-};
+use crate::lines::{journal_refused_line, task_refused_line, unreadable_line, usage_line};
 use crate::status::Status;
-use crate::task_fault::{TextFault, TextPlace};
 use rcp_base::{Memory, Sink, WriteError};
 use std::alloc::Global;
+use task_file::FileFault;
 
 /// Writes what is due.
 pub fn write_answer<S: Sink>(alloc: Global, answer: Answer<'_>, out: &mut S) -> Status
@@ -21,10 +19,7 @@ pub fn write_answer<S: Sink>(alloc: Global, answer: Answer<'_>, out: &mut S) -> 
     match answer {
         Answer::Usage => write_line(out, Status::Usage, usage_line()),
         Answer::Unreadable(word) => write_unreadable(alloc, word, out),
-        Answer::TaskRefused => write_line(out, Status::TaskRefused, task_refused_line()),
-        Answer::TextRefused { place, fault, byte } => write_text_refused(
-            alloc, place, fault, byte, out,
-        ),
+        Answer::TaskRefused(fault) => write_task_refused(alloc, fault, out),
         Answer::JournalRefused => write_line(out, Status::JournalRefused, journal_refused_line()),
         Answer::Ideal { plan, frames } => end(Status::Done, write_ideal(alloc, &plan, frames, out)),
     }
@@ -57,15 +52,9 @@ fn write_unreadable<S: Sink>(alloc: Global, word: &str, out: &mut S) -> Status
 }
 
 #[tactic(auto, using(crate::proofs::EndingLemmas::ends_behind_write))]
-fn write_text_refused<S: Sink>(
-    alloc: Global,
-    place: TextPlace,
-    fault: TextFault,
-    byte: u32,
-    out: &mut S,
-) -> Status
-    ensures { Ends (text_refused place fault byte) result (S.written out.old) (S.written out.new) (S.faults out.old) (S.faults out.new) }
+fn write_task_refused<S: Sink>(alloc: Global, fault: FileFault, out: &mut S) -> Status
+    ensures { Ends (task_refused fault) result (S.written out.old) (S.written out.new) (S.faults out.old) (S.faults out.new) }
 {
-    let line: Result<Vec<u8>, Memory> = text_refused_line(alloc, place, fault, byte);
+    let line: Result<Vec<u8>, Memory> = task_refused_line(alloc, fault);
     end(Status::TaskRefused, send(out, line))
 }
