@@ -8,3 +8,5 @@ pub mod Tables
 pub mod Calls
 pub mod MemFolder
 pub mod MemSink
+pub mod Majority
+pub mod Message

@@ -5,4 +5,9 @@ pub mod Uniprocessor
 pub mod Rounding
 pub mod TimingRules
 pub mod Plan
+pub mod Moments
+pub mod FrameRows
+pub mod Health
+pub mod Messages
+pub mod System
 pub mod Laws

@@ -1,5 +1,6 @@
 -- What a slot of the frame table leaves in the cells, and what an actuator is commanded. After NASA TM-102716.
-use Rattle.std.specs.Prelude.{ℕ, ℤ, List, [], ◌∷◌, map, length, slice_index_or}
+use Rattle.std.specs.Prelude.{ℕ, ℤ, pos, List, [], ◌∷◌, map, length, slice_index_or}
+use Rattle.rcp_model.specs.declared.expr.Expr.TheVariants as expr
 use Rattle.rcp_model.specs.declared.task.Task.{Task}
 use Rattle.rcp_model.specs.declared.plan.SlotRow.{SlotRow}
 use Rattle.rcp_model.specs.declared.plan.ActuatorRow.{ActuatorRow}
@@ -16,6 +17,9 @@ no_task = record { name = []; lets = []; sets = [] }
 
 abbrev pub no_slot : SlotRow
 no_slot = record { tasks = []; votes = [] }
+
+abbrev pub no_actuator : ActuatorRow
+no_actuator = record { name = []; value = expr.Number (pos 0) }
 
 -- the tasks with these numbers
 abbrev pub numbered : List Task → List ℕ → List Task
