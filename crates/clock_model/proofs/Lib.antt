@@ -1,1 +1,2 @@
 mod DriftLemmas
+mod MomentsLemmas

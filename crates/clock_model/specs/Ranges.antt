@@ -1,6 +1,7 @@
--- The ranges in which a timing is tested in 64 bits, and the two halves of the fifth rule. This project's own.
+-- The ranges in which 64 bits are enough, and the two halves of the fifth rule. This project's own.
 use Rattle.std.specs.Prelude.{ℤ, pos, ◌≤ℤ◌}
 use Rattle.rcp_model.specs.declared.plan.Timing.{Timing}
+use Rattle.rcp_model.specs.FrameRows.{IsWithin}
 use Rattle.rcp_model.specs.TimingRules.{delay_limit_of}
 
 -- the ticks of up to three phases together
@@ -10,6 +11,14 @@ IsSpan x = (pos 0 ≤ℤ x) × (x ≤ℤ pos 3_000_000_000)
 -- the ticks that a clock may drift over them
 abbrev pub IsDrift : ℤ → Type 0
 IsDrift x = (pos 0 ≤ℤ x) × (x ≤ℤ pos 3_000_000_000_000)
+
+-- the rate of a clock in parts per million, whose ticks are longer than real ones or shorter
+abbrev pub IsRate : ℤ → Type 0
+IsRate ppm = IsWithin (pos 1_000_000_000) ppm
+
+-- the real ticks by which such phases are longer or shorter
+abbrev pub IsStretch : ℤ → Type 0
+IsStretch x = IsWithin (pos 3_000_000_000_000) x
 
 -- the skew and drift of healthy replicas are within what a journal may give
 pub record ClocksNest (timing : Timing) : Type 0 where

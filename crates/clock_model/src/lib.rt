@@ -1,11 +1,13 @@
-//! The clocks of the replicas: which timings a task file may have.
+//! The clocks of the replicas: which timings a task file may have, and the moments of each frame.
 //! After NASA TM-104196.
 #![tactic(auto)]
 
 mod drift;
+mod moments;
 mod rules;
 
-pub use rules::check_timing;
+pub use moments::{arrival, begin, in_window, send, sync, vote};
+pub use rules::{check_timing, delay_limit};
 
 #[cfg(test)]
 mod tests;

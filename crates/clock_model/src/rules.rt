@@ -66,8 +66,8 @@ fn frames_stay_apart(timing: &Timing) -> bool
     sync_need(timing) < timing.sync
 }
 
-// The ticks of the four phases together.
-fn frame_length(timing: &Timing) -> i64
+/// The ticks of the four phases together.
+pub fn frame_length(timing: &Timing) -> i64
     requires { AreInRange timing.now }
     ensures value { result ≡ model.frame_length timing.now }
     ensures range { (pos 0 ≤ℤ result) × (result ≤ℤ pos 4_000_000_000) }
@@ -78,7 +78,8 @@ fn frame_length(timing: &Timing) -> i64
 /// The greatest delay that a journal may give, in ticks.
 pub fn delay_limit(timing: &Timing) -> i64
     requires { AreInRange timing.now }
-    ensures { result ≡ model.delay_limit_of timing.now }
+    ensures value { result ≡ model.delay_limit_of timing.now }
+    ensures range { result ≤ℤ pos 10_000_000_000 }
 {
     frame_length(timing) - 2 * timing.skew_limit - 2 * limit_drift(timing, timing.compute) - 1
 }
