@@ -73,25 +73,33 @@ rate_of rows replica = slice_index_or rows.rates replica (pos 0)
 unfoldable pub delay_of : FrameRows → ℕ → ℕ → ℤ
 delay_of rows sender receiver = entry_at rows.replicas rows.delays sender receiver rows.delay_min
 
+-- a frame with these sizes, this delay and these sensor values, and no other row
+abbrev pub quiet_rows : ℕ → ℕ → ℕ → ℤ → List ℤ → FrameRows
+quiet_rows replicas cells actuators delay_min sensors = record {
+  replicas = replicas;
+  cells = cells;
+  actuators = actuators;
+  delay_min = delay_min;
+  sensors = sensors;
+  downs = replicate replicas false;
+  slots = replicate replicas None;
+  skews = replicate replicas (pos 0);
+  rates = replicate replicas (pos 0);
+  cell_values = replicate (replicas * cells) None;
+  acts = replicate (replicas * actuators) None;
+  lie_slots = replicate (replicas * replicas) None;
+  drops = replicate (replicas * replicas) false;
+  delays = replicate (replicas * replicas) delay_min;
+  lies = replicate (replicas * replicas * cells) None;
+}
+
 -- a frame of the plan with these sensor values and no other row
 unfoldable pub no_rows : PlanParts → List ℤ → FrameRows
-no_rows plan sensors = record {
-  replicas = plan.replicas;
-  cells = length plan.cells;
-  actuators = length plan.actuators;
-  delay_min = plan.timing.delay_min;
-  sensors = sensors;
-  downs = replicate plan.replicas false;
-  slots = replicate plan.replicas None;
-  skews = replicate plan.replicas (pos 0);
-  rates = replicate plan.replicas (pos 0);
-  cell_values = replicate (plan.replicas * length plan.cells) None;
-  acts = replicate (plan.replicas * length plan.actuators) None;
-  lie_slots = replicate (plan.replicas * plan.replicas) None;
-  drops = replicate (plan.replicas * plan.replicas) false;
-  delays = replicate (plan.replicas * plan.replicas) plan.timing.delay_min;
-  lies = replicate (plan.replicas * plan.replicas * length plan.cells) None;
-}
+no_rows plan sensors = quiet_rows plan.replicas (length plan.cells) (length plan.actuators) plan.timing.delay_min sensors
+
+-- the frame that follows: the sensors stay, and all other rows go
+unfoldable pub cleared : FrameRows → FrameRows
+cleared rows = quiet_rows rows.replicas rows.cells rows.actuators rows.delay_min rows.sensors
 
 -- the rows with one entry more
 unfoldable pub with_sensor : FrameRows → ℕ → ℤ → FrameRows

@@ -9,6 +9,7 @@ use Rattle.rcp_model.specs.declared.task.LetRow.{LetRow}
 use Rattle.rcp_model.specs.declared.task.Task.{Task}
 use Rattle.rcp_model.specs.declared.plan.Variable.{Variable}
 use Rattle.rcp_model.specs.declared.plan.SlotRow.{SlotRow}
+use Rattle.rcp_model.specs.declared.plan.ActuatorRow.{ActuatorRow}
 use Rattle.rcp_model.specs.declared.plan.PlanParts.{PlanParts}
 use Rattle.rcp_model.specs.Slot.{numbered}
 use Rattle.rcp_model.specs.TimingRules.{AreInRange, KeepsRules}
@@ -37,6 +38,9 @@ pub record AreNames (names : List (List ℕ)) : Type 0 where
 
 abbrev pub variable_names : List Variable → List (List ℕ)
 variable_names variables = map (λ variable. variable.name) variables
+
+abbrev pub actuator_names : List ActuatorRow → List (List ℕ)
+actuator_names actuators = map (λ actuator. actuator.name) actuators
 
 -- a let reads the lets before it
 abbrev pub LetsReadEarlier : ℕ → ℕ → List LetRow → Type 0
@@ -82,7 +86,7 @@ pub record IsPlan (parts : PlanParts) : Type 0 where
   pub actuators : length parts.actuators ≤ 32
   pub variables : AreNames (variable_names parts.sensors ++ variable_names parts.cells)
   pub task_names : AreNames (map (λ task. task.name) parts.tasks)
-  pub actuator_names : AreNames (map (λ actuator. actuator.name) parts.actuators)
+  pub actuator_names : AreNames (actuator_names parts.actuators)
   pub each_task : All (IsTaskOver (variable_names parts.sensors) (variable_names parts.cells)) parts.tasks
   pub each_slot : All (IsSlotOver parts.tasks (length parts.cells)) parts.slots
   pub each_value : All (λ actuator. is_over (length parts.sensors) (length parts.cells) 0 actuator.value ≡ true) parts.actuators
