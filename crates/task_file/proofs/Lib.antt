@@ -3,6 +3,7 @@ mod FaultLemmas
 mod EachLemmas
 mod LimitLemmas
 mod ItemLemmas
+mod NameEntryLemmas
 mod NameLemmas
 mod TextLemmas
 mod ClashLemmas

@@ -5,6 +5,7 @@ pub mod ShapeParts
 pub mod SectionViews
 pub mod Limits
 pub mod Names
+pub mod NameEntries
 pub mod NameLists
 pub mod Texts
 pub mod WrittenViews

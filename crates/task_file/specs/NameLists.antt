@@ -1,6 +1,6 @@
 -- The names of the sections of a task file, where none is bad.
 -- This project's own.
-use Rattle.std.specs.Prelude.{ℕ, List, ◌&&◌, not, Option, Some, None, Ok, if◌then◌else◌}
+use Rattle.std.specs.Prelude.{ℕ, List, Bool, ◌&&◌, not, Ok}
 use Rattle.rcp_base.specs.Name.{is_name}
 use Rattle.task_file.specs.declared.fault.FileFault.{FileFault}
 use Rattle.task_file.specs.declared.fault.FileFault.TheVariants.{BadName}
@@ -15,9 +15,9 @@ use Rattle.task_file.specs.Shape.{Sections}
 abbrev pub bad_name : Section → ℕ → FileFault
 bad_name at i = BadName (of_table_key at i key.Name)
 
--- the name that a text is, where it is one that does not stand before
-abbrev pub new_name : List (List ℕ) → List ℕ → Option (List ℕ)
-new_name before text = if is_name text && not (is_among before text) then Some text else None
+-- a text is a name that does not stand before
+abbrev pub is_new_name : List (List ℕ) → List ℕ → Bool
+is_new_name before text = is_name text && not (is_among before text)
 
 -- the names of a section, where none is bad
 abbrev pub names_from : Section → List (List ℕ) → List (List ℕ) → Verdict (List (List ℕ))

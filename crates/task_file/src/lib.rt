@@ -8,6 +8,7 @@ mod document;
 mod fault;
 mod file;
 pub mod laws;
+mod name_list;
 mod names;
 mod parts;
 mod path;

@@ -1,7 +1,7 @@
 //! The names of a task file: each is a name, and none stands twice in its set.
 //! This project's own.
-ghost use Rattle.std.specs.Prelude.{◌≡◌, ◌≤◌, [], ◌++◌, length, map};
-ghost use Rattle.task_file.specs.Document as document;
+ghost use Rattle.std.specs.Prelude.{◌≡◌, ◌≤◌, [], ◌∷◌, ◌++◌, length, map, if◌then◌else◌, IfOk};
+ghost use Rattle.task_file.specs.declared.path.Section.TheVariants as section;
 ghost use Rattle.task_file.specs.Limits.{AreWithinLimits};
 ghost use Rattle.task_file.specs.Names.{variable_names, text_names};
 ghost use Rattle.task_file.specs.NameLists as spec;
@@ -9,34 +9,30 @@ ghost use Rattle.task_file.specs.SectionViews.{variable_view, text_view, section
 ghost use Rattle.task_file.specs.Verdict.{Gives};
 
 use crate::fault::FileFault;
+use crate::name_list::NameList;
 use crate::path::{Key, Section};
 use crate::places::of_table_key;
 use crate::sections::{RawText, RawVariable, Sections};
-use rcp_base::{List, Name};
+use rcp_base::Memory;
 use std::alloc::Global;
 
 /// The names of the sections, in their order.
 #[derive(Drop)]
-pub struct NameLists {
-    pub sensors: List<Name>,
-    pub cells: List<Name>,
-    pub tasks: List<Name>,
-    pub actuators: List<Name>,
+pub struct NameLists<'a> {
+    pub sensors: NameList<'a>,
+    pub cells: NameList<'a>,
+    pub tasks: NameList<'a>,
+    pub actuators: NameList<'a>,
 }
 
 /// The names of the sections, where none is bad.
 #[tactic(auto, unfolding(crate::specs::Names::name_fault))]
-pub fn read_names(alloc: Global, sections: &Sections<'_>) -> Result<NameLists, FileFault>
+pub fn read_names<'a>(alloc: Global, sections: &Sections<'a>) -> Result<NameLists<'a>, FileFault>
     requires { AreWithinLimits (sections_view sections.now) }
     ensures { Gives (λ names. names) result (spec.names_in (sections_view sections.now)) }
 {
-    let sensors = variable_names(alloc, Section::Sensor, &[], sections.sensors.as_slice())?;
-    let cells = variable_names(
-        alloc,
-        Section::Cell,
-        sensors.as_slice(),
-        sections.cells.as_slice(),
-    )?;
+    let sensors = sensor_names(alloc, sections.sensors.as_slice())?;
+    let cells = variable_names(alloc, Section::Cell, &sensors, sections.cells.as_slice())?;
     let tasks = text_names(alloc, Section::Task, sections.tasks.as_slice())?;
     let actuators = text_names(alloc, Section::Actuator, sections.actuators.as_slice())?;
     Ok(NameLists {
@@ -47,37 +43,46 @@ pub fn read_names(alloc: Global, sections: &Sections<'_>) -> Result<NameLists, F
     })
 }
 
+fn sensor_names<'a>(alloc: Global, sensors: &[RawVariable<'a>]) -> Result<NameList<'a>, FileFault>
+    requires { length sensors.now ≤ 128 }
+    ensures { Gives (λ names. names) result (spec.names_from section.Sensor [] (variable_names (map variable_view sensors.now))) }
+{
+    variable_names(alloc, Section::Sensor, &NameList::new(alloc), sensors)
+}
+
 // The names of sensors or cells, none of which stands before.
-fn variable_names(
+fn variable_names<'a>(
     alloc: Global,
     at: Section,
-    before: &[Name],
-    variables: &[RawVariable<'_>],
-) -> Result<List<Name>, FileFault>
+    before: &NameList<'a>,
+    variables: &[RawVariable<'a>],
+) -> Result<NameList<'a>, FileFault>
     requires { length variables.now ≤ 128 }
     ensures { Gives (λ names. names) result (spec.names_from at before.now (variable_names (map variable_view variables.now))) }
 {
-    let mut names = List::new(alloc);
+    let mut names = NameList::new(alloc);
     for (i, variable) in variables.iter().enumerate() {
-        let Some(name) = new_name(before, names.as_slice(), variable.name) else {
+        if !add_name(before, &mut names, variable.name)? {
             return Err(bad_name(at, i));
-        };
-        names.push(name)?;
+        }
     }
     Ok(names)
 }
 
 // The names of tasks or actuators.
-fn text_names(alloc: Global, at: Section, texts: &[RawText<'_>]) -> Result<List<Name>, FileFault>
+fn text_names<'a>(
+    alloc: Global,
+    at: Section,
+    texts: &[RawText<'a>],
+) -> Result<NameList<'a>, FileFault>
     requires { length texts.now ≤ 128 }
     ensures { Gives (λ names. names) result (spec.names_from at [] (text_names (map text_view texts.now))) }
 {
-    let mut names = List::new(alloc);
+    let mut names = NameList::new(alloc);
     for (i, text) in texts.iter().enumerate() {
-        let Some(name) = new_name(&[], names.as_slice(), text.name) else {
+        if !names.add(text.name)? {
             return Err(bad_name(at, i));
-        };
-        names.push(name)?;
+        }
     }
     Ok(names)
 }
@@ -91,19 +96,17 @@ fn bad_name(at: Section, index: usize) -> FileFault
     }
 }
 
-// The name that a text is, where it is one and stands in neither list.
-fn new_name(before: &[Name], names: &[Name], text: &str) -> Option<Name>
-    ensures { result ≡ spec.new_name (before.now ++ names.now) text.now }
+// Adds the name that a text is, where it stands in neither list, and tells whether it did.
+fn add_name<'a>(
+    before: &NameList<'a>,
+    names: &mut NameList<'a>,
+    text: &'a str,
+) -> Result<bool, Memory>
+    ensures new { IfOk result (λ new. new ≡ spec.is_new_name (before.now ++ names.old) text.now) }
+    ensures names { IfOk result (λ new. names.new ≡ (if new then names.old ++ text.now ∷ [] else names.old)) }
 {
-    let name = Name::read(text)?;
-    if is_among(before, &name) || is_among(names, &name) {
-        return None;
+    if before.has(text) {
+        return Ok(false);
     }
-    Some(name)
-}
-
-fn is_among(names: &[Name], name: &Name) -> bool
-    ensures { result ≡ document.is_among names.now name.now }
-{
-    names.iter().any(|known| known.bytes() == name.bytes())
+    names.add(text)
 }

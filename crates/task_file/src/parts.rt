@@ -1,9 +1,9 @@
 //! The parts of a plan from the sections of a task file.
 //! This project's own.
-ghost use Rattle.std.specs.Prelude.{◌≡◌, [], map, IfOk};
+ghost use Rattle.std.specs.Prelude.{◌≡◌, [], map, None, IfOk};
 ghost use Rattle.rcp_model.specs.TimingRules.{AreInRange};
 ghost use Rattle.task_file.specs.Limits.{AreWithinLimits};
-ghost use Rattle.task_file.specs.Names.{variable_names};
+ghost use Rattle.task_file.specs.Names.{variable_names, name_fault};
 ghost use Rattle.task_file.specs.NameLists.{lists_of};
 ghost use Rattle.task_file.specs.SectionViews.{variable_view, sections_view};
 ghost use Rattle.task_file.specs.TaskFile as spec;
@@ -28,16 +28,26 @@ pub fn parts_in(alloc: Global, sections: &Sections<'_>) -> Result<PlanParts, Fil
     ensures { Gives (λ parts. parts) result (spec.parts_in (sections_view sections.now)) }
 {
     let names = read_names(alloc, sections)?;
-    let written = read_texts(alloc, sections, &names)?;
-    let slots = slot_rows_of(
-        alloc,
-        names.tasks.as_slice(),
-        names.cells.as_slice(),
-        sections.slots.as_slice(),
-    )?;
+    parts_over(alloc, sections, &names)
+}
+
+// The parts over the names of the sections, none of which is bad.
+#[tactic(auto, unfolding(crate::specs::TaskFile::parts_in))]
+fn parts_over(
+    alloc: Global,
+    sections: &Sections<'_>,
+    names: &NameLists<'_>,
+) -> Result<PlanParts, FileFault>
+    requires limits { AreWithinLimits (sections_view sections.now) }
+    requires good { name_fault (sections_view sections.now) ≡ None }
+    requires names { names.now ≡ lists_of (sections_view sections.now) }
+    ensures { Gives (λ parts. parts) result (spec.parts_in (sections_view sections.now)) }
+{
+    let written = read_texts(alloc, sections, names)?;
+    let slots = slot_rows_of(alloc, &names.tasks, &names.cells, sections.slots.as_slice())?;
     check_slots(alloc, written.tasks.as_slice(), slots.as_slice())?;
     check_rules(&sections.timing)?;
-    Ok(parts_of(alloc, sections, &names, written, slots)?)
+    Ok(parts_of(alloc, sections, names, written, slots)?)
 }
 
 fn check_rules(timing: &Timing) -> Result<(), FileFault>
@@ -53,7 +63,7 @@ fn check_rules(timing: &Timing) -> Result<(), FileFault>
 fn parts_of(
     alloc: Global,
     sections: &Sections<'_>,
-    names: &NameLists,
+    names: &NameLists<'_>,
     written: Written,
     slots: List<SlotRow>,
 ) -> Result<PlanParts, Memory>

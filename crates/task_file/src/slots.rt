@@ -1,7 +1,6 @@
 //! The slots of a task file by the numbers of their tasks and cells.
 //! This project's own.
-ghost use Rattle.std.specs.Prelude.{◌≡◌, ◌≤◌, ◌<◌, length, map, position, All, IfOk, IfSome};
-ghost use Rattle.std.specs.Str.{bytes_eq};
+ghost use Rattle.std.specs.Prelude.{◌≡◌, ◌≤◌, length, map, All, IfOk};
 ghost use Rattle.task_file.specs.Limits.{IsShortSlot};
 ghost use Rattle.task_file.specs.SectionViews.{slot_view};
 ghost use Rattle.task_file.specs.SlotRows.{IsShortRow};
@@ -9,10 +8,11 @@ ghost use Rattle.task_file.specs.Slots as spec;
 ghost use Rattle.task_file.specs.Verdict.{Gives, each_from};
 
 use crate::fault::FileFault;
+use crate::name_list::NameList;
 use crate::path::{Key, Section};
 use crate::places::of_entry;
 use crate::sections::RawSlot;
-use rcp_base::{List, Name};
+use rcp_base::List;
 use rcp_model::SlotRow;
 use std::alloc::Global;
 
@@ -20,8 +20,8 @@ use std::alloc::Global;
 #[tactic(auto, unfolding(crate::specs::Slots::slot_rows_of))]
 pub fn slot_rows_of(
     alloc: Global,
-    tasks: &[Name],
-    cells: &[Name],
+    tasks: &NameList<'_>,
+    cells: &NameList<'_>,
     slots: &[RawSlot<'_>],
 ) -> Result<List<SlotRow>, FileFault>
     requires tasks { length tasks.now ≤ 128 }
@@ -41,8 +41,8 @@ pub fn slot_rows_of(
 
 fn slot_row_of(
     alloc: Global,
-    tasks: &[Name],
-    cells: &[Name],
+    tasks: &NameList<'_>,
+    cells: &NameList<'_>,
     i: usize,
     slot: &RawSlot<'_>,
 ) -> Result<SlotRow, FileFault>
@@ -61,7 +61,7 @@ fn slot_row_of(
 // The numbers of the names of a list.
 fn numbers_of(
     alloc: Global,
-    names: &[Name],
+    names: &NameList<'_>,
     i: usize,
     at: Key,
     entries: &[&str],
@@ -79,26 +79,22 @@ fn numbers_of(
     Ok(numbers)
 }
 
-fn number_of(names: &[Name], i: usize, at: Key, j: usize, entry: &str) -> Result<u16, FileFault>
+fn number_of(
+    names: &NameList<'_>,
+    i: usize,
+    at: Key,
+    j: usize,
+    entry: &str,
+) -> Result<u16, FileFault>
     requires names { length names.now ≤ 128 }
     requires i { i ≤ 32 }
     requires j { j ≤ 128 }
     ensures { Gives (λ number. number) result (spec.number_of names.now i at j entry.now) }
 {
-    match position_of(names, entry) {
+    match names.number_of(entry) {
         Some(number) => Ok(number as u16),
         None => Err(FileFault::UnknownInSlot {
             path: of_entry(Section::Slot, i as u32, at, j as u32),
         }),
     }
-}
-
-// The place of a text among names.
-fn position_of(names: &[Name], text: &str) -> Option<usize>
-    ensures place { result ≡ position (bytes_eq text.now) names.now }
-    ensures within { IfSome result (λ place. place < length names.now) }
-{
-    names
-        .iter()
-        .position(|name| text.as_bytes() == name.bytes())
 }

@@ -31,7 +31,7 @@ pub struct Written {
 pub fn read_texts(
     alloc: Global,
     sections: &Sections<'_>,
-    names: &NameLists,
+    names: &NameLists<'_>,
 ) -> Result<Written, FileFault>
     requires limits { AreWithinLimits (sections_view sections.now) }
     requires names { names.now ≡ lists_of (sections_view sections.now) }
