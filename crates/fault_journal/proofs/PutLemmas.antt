@@ -1,0 +1,57 @@
+-- What is put into a frame: a row by its kind, all sensors, rows one behind the other.
+use Rattle.std.proofs.Common.{◌≡◌, ℕ, ◌+◌, ◌<◌, List, [], ◌∷◌, ◌++◌, length, get_or, set, take, drop, reverse, ℤ, pos, negsuc, nat_abs, true, All, sym, refl, ap, ◌∙◌, arith, subst, append_assoc, length-take-le}
+use Rattle.std.proofs.lemmas.Int.{ints}
+use Rattle.std.proofs.lemmas.List.{reverse-append, drop_more, take_more, set_at}
+use Rattle.std.proofs.lemmas.List.Elements.{All-head, All-tail}
+use Rattle.rcp_model.specs.declared.plan.PlanParts.{PlanParts}
+use Rattle.rcp_model.specs.FrameRows.{FrameRows, with_sensor}
+use Rattle.fault_journal.specs.declared.row.Kind.{Kind}
+use Rattle.fault_journal.specs.declared.row.Row.{Row}
+use Rattle.fault_journal.specs.Limits.{value_is_permitted, is_below, natural_of}
+use Rattle.fault_journal.specs.History.{frame_of}
+use Rattle.fault_journal.specs.Filling.{IsRowOf, put_by, put_row, put_all}
+use Rattle.fault_journal.proofs.SaidLemmas.{row_more}
+
+-- what a row of a known kind changes
+pub put_row-of_kind : (rows : FrameRows) (row : Row) (kind : Kind) → row.kind ≡ kind → put_row rows row ≡ put_by kind rows row
+unfolding put_row
+put_row-of_kind rows row kind is = ap (λ (k : Kind). put_by k rows row) is
+
+-- one sensor more has its value
+set_front : (values sensors : List ℤ) (i : ℕ) (value : ℤ) → i < length values → i < length sensors → value ≡ get_or values i value
+    → set (take i values ++ drop i sensors) i value ≡ take (i + 1) values ++ drop (i + 1) sensors
+set_front values sensors i value below within is =
+    let split = drop_more sensors i value within in
+    let front = length-take-le i values (omega arith) in
+    ap (λ (rest : List ℤ). set (take i values ++ rest) i value) split
+    ∙ set_at (take i values) (get_or sensors i value) (drop (i + 1) sensors) value i front
+    ∙ sym (append_assoc (take i values) (value ∷ []) (drop (i + 1) sensors))
+    ∙ ap (λ (x : ℤ). (take i values ++ x ∷ []) ++ drop (i + 1) sensors) is
+    ∙ ap (λ (t : List ℤ). t ++ drop (i + 1) sensors) (sym (take_more values i value below))
+
+pub set_more : (rows now : FrameRows) (values : List ℤ) (i : ℕ) (value : ℤ) → i < length values → length values ≡ length rows.sensors → value ≡ get_or values i value
+    → now ≡ record rows { sensors = take i values ++ drop i rows.sensors }
+    → with_sensor now i value ≡ record rows { sensors = take (i + 1) values ++ drop (i + 1) rows.sensors }
+unfolding with_sensor
+set_more rows now values i value below same is so_far =
+    ap (λ (r : FrameRows). record r { sensors = set r.sensors i value }) so_far
+    ∙ ap (λ (t : List ℤ). record rows { sensors = t }) (set_front values rows.sensors i value below (omega arith) is)
+
+-- rows of the frame at hand, one behind the other
+pub put_all-frame : (plan : PlanParts) (more before : List Row) (frame : ℕ) → All (λ row. row.frame ≡ frame) more → All (IsRowOf plan) more
+    → frame_of plan (reverse more ++ before) frame ≡ put_all (frame_of plan before frame) more
+put_all-frame plan [] before frame same of_plan = refl
+put_all-frame plan (row ∷ more) before frame same of_plan =
+    ap (λ (rows : List Row). frame_of plan rows frame) ((ap (λ (t : List Row). t ++ before) (reverse-append (row ∷ []) more)) ∙ append_assoc (reverse more) (row ∷ []) before)
+    ∙ put_all-frame plan more (row ∷ before) frame (All-tail (λ (r : Row). r.frame ≡ frame) row more same) (All-tail (IsRowOf plan) row more of_plan)
+    ∙ ap (λ (rows : FrameRows). put_all rows more)
+    (row_more plan row before frame (All-head (λ (r : Row). r.frame ≡ frame) row more same) (All-head (IsRowOf plan) row more of_plan))
+
+-- the value of a row of a known kind is permitted
+pub permitted-of_kind : (plan : PlanParts) (row : Row) (kind : Kind) → IsRowOf plan row → row.kind ≡ kind → value_is_permitted plan kind row.value ≡ true
+permitted-of_kind plan row kind of_plan is = subst (λ (k : Kind). value_is_permitted plan k row.value ≡ true) is of_plan.value
+
+-- the size of a number that is not below 0
+pub natural-below : (count : ℕ) (value : ℤ) → is_below count value ≡ true → nat_abs value ≡ natural_of value
+natural-below count (pos n) below = refl
+natural-below count (negsuc n) below = grind (arith, ints)

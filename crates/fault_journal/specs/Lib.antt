@@ -1,0 +1,14 @@
+pub mod Verdict
+pub mod Number
+pub mod Columns
+pub mod Limits
+pub mod Journal
+pub mod History
+pub mod Answers
+pub mod Seen
+pub mod Records
+pub mod Rows
+pub mod Filling
+pub mod Accepted
+pub mod Telling
+pub mod Laws

@@ -1,0 +1,150 @@
+//! What stands in the columns of a row.
+//! This project's own.
+ghost use Rattle.std.specs.Prelude.{◌≡◌, ◌<◌, ◌≤◌, length, map, option_map, position, IfOk, IfSome};
+ghost use Rattle.std.specs.Str.{bytes_eq};
+ghost use Rattle.rcp_model.specs.Plan.{IsPlan, variable_names, actuator_names};
+ghost use Rattle.fault_journal.specs.Columns as spec;
+ghost use Rattle.fault_journal.specs.Number.{number_of};
+ghost use Rattle.fault_journal.specs.Verdict.{found_or};
+ghost use Rattle.fault_journal.specs.declared.fault.JournalFault.TheVariants as fault;
+
+use crate::fault::JournalFault;
+use crate::kind::columns_of;
+use crate::number::number_of;
+use crate::row::{Column, Kind, WrittenRow};
+use rcp_model::{ActuatorRow, PlanParts, Variable};
+
+/// The row of this number, by its first column, its kind and the texts of the columns behind it.
+#[tactic(auto, unfolding(crate::specs::Columns::written_row))]
+pub fn written_row(
+    plan: &PlanParts,
+    number: u32,
+    frame: &[u8],
+    kind: Kind,
+    texts: [&[u8]; 4],
+) -> Result<WrittenRow, JournalFault>
+    requires { IsPlan plan.now }
+    ensures row { result ≡ spec.written_row plan.now number frame.now kind (map (λ text. text.now) texts.entry) }
+    ensures item { IfOk result (λ row. row.item < 64) }
+{
+    let [a, b, c, d] = texts;
+    let [first, second, third, fourth] = columns_of(kind);
+    let row = bare_row(frame, kind).ok_or(JournalFault::Column {
+        row: number,
+        column: 1,
+    })?;
+    let row = row_with(plan, number, 3, row, first, a)?;
+    let row = row_with(plan, number, 4, row, second, b)?;
+    let row = row_with(plan, number, 5, row, third, c)?;
+    row_with(plan, number, 6, row, fourth, d)
+}
+
+// The row of a frame before its columns are read.
+fn bare_row(frame: &[u8], kind: Kind) -> Option<WrittenRow>
+    ensures row { result ≡ option_map (λ frame. spec.bare_row frame kind) (number_of frame.now) }
+    ensures item { IfSome result (λ row. row.item ≡ 0) }
+{
+    let frame = number_of(frame)?;
+    Some(WrittenRow {
+        frame,
+        kind,
+        replica: 0,
+        receiver: 0,
+        item: 0,
+        value: 0,
+    })
+}
+
+// The row with what the column of this number gives it.
+fn row_with(
+    plan: &PlanParts,
+    number: u32,
+    at: u32,
+    row: WrittenRow,
+    column: Column,
+    text: &[u8],
+) -> Result<WrittenRow, JournalFault>
+    requires plan { IsPlan plan.now }
+    requires item { row.item < 64 }
+    ensures row { result ≡ found_or (fault.Column number at) (spec.with_column plan.now row column text.now) }
+    ensures item { IfOk result (λ row. row.item < 64) }
+{
+    with_column(plan, row, column, text).ok_or(JournalFault::Column {
+        row: number,
+        column: at,
+    })
+}
+
+#[tactic(auto, unfolding(crate::specs::Columns::with_column))]
+fn with_column(plan: &PlanParts, row: WrittenRow, column: Column, text: &[u8]) -> Option<WrittenRow>
+    requires plan { IsPlan plan.now }
+    requires item { row.item < 64 }
+    ensures row { result ≡ spec.with_column plan.now row column text.now }
+    ensures item { IfSome result (λ row. row.item < 64) }
+{
+    match column {
+        Column::Replica => Some(WrittenRow {
+            replica: number_of(text)?,
+            ..row
+        }),
+        Column::Receiver => Some(WrittenRow {
+            receiver: number_of(text)?,
+            ..row
+        }),
+        Column::SensorName => Some(WrittenRow {
+            item: variable_item(plan.sensors.as_slice(), text)?,
+            ..row
+        }),
+        Column::CellName => Some(WrittenRow {
+            item: variable_item(plan.cells.as_slice(), text)?,
+            ..row
+        }),
+        Column::ActuatorName => Some(WrittenRow {
+            item: actuator_item(plan.actuators.as_slice(), text)?,
+            ..row
+        }),
+        Column::Value => Some(WrittenRow {
+            value: number_of(text)?,
+            ..row
+        }),
+        Column::Nothing => { if text.is_empty() { Some(row) } else { None } }
+    }
+}
+
+// The number of the sensor or cell of this name.
+#[tactic(auto, using(crate::proofs::ColumnLemmas::variable_places))]
+fn variable_item(variables: &[Variable], text: &[u8]) -> Option<u8>
+    requires { length variables.now ≤ 64 }
+    ensures item { result ≡ spec.place_of (variable_names variables.now) text.now }
+    ensures within { IfSome result (λ item. item < 64) }
+{
+    Some(variable_place(variables, text)? as u8)
+}
+
+fn variable_place(variables: &[Variable], text: &[u8]) -> Option<usize>
+    ensures place { result ≡ position (λ variable. bytes_eq text.now variable.name) variables.now }
+    ensures within { IfSome result (λ place. place < length variables.now) }
+{
+    variables
+        .iter()
+        .position(|variable| text == variable.name.bytes())
+}
+
+// The number of the actuator of this name.
+#[tactic(auto, using(crate::proofs::ColumnLemmas::actuator_places))]
+fn actuator_item(actuators: &[ActuatorRow], text: &[u8]) -> Option<u8>
+    requires { length actuators.now ≤ 32 }
+    ensures item { result ≡ spec.place_of (actuator_names actuators.now) text.now }
+    ensures within { IfSome result (λ item. item < 64) }
+{
+    Some(actuator_place(actuators, text)? as u8)
+}
+
+fn actuator_place(actuators: &[ActuatorRow], text: &[u8]) -> Option<usize>
+    ensures place { result ≡ position (λ actuator. bytes_eq text.now actuator.name) actuators.now }
+    ensures within { IfSome result (λ place. place < length actuators.now) }
+{
+    actuators
+        .iter()
+        .position(|actuator| text == actuator.name.bytes())
+}

@@ -1,0 +1,60 @@
+//! The records of a journal's bytes, one at a time.
+//! This project's own.
+ghost use Rattle.std.specs.Prelude.{◌≡◌, IfOk};
+ghost use Rattle.fault_journal.specs.Journal.{records_of};
+ghost use Rattle.fault_journal.specs.Records.{Takes};
+
+use csv::{ByteRecord, Reader, ReaderBuilder};
+use rcp_base::Memory;
+use std::alloc::Global;
+use std::marker::Model;
+
+/// A record at hand, and those behind it, which are still to be read.
+#[derive(Drop)]
+pub struct Records<'a> {
+    reader: Reader<&'a [u8]>,
+    row: ByteRecord,
+}
+
+impl<'a> Model for Records<'a> {
+    ghost use Rattle.fault_journal.specs.Records.{Reading, reading_of, CanReadOn};
+
+    ghost Value = { Reading };
+
+    ghost view = { λ a. reading_of a.reader a.row };
+
+    ghost invariant = { λ a. CanReadOn a.reader };
+}
+
+impl<'a> Records<'a> {
+    /// Before the first record, so that none is at hand.
+    pub fn new(alloc: Global, bytes: &'a [u8]) -> Records<'a>
+        ensures { result.left ≡ records_of bytes.now }
+    {
+        Records {
+            reader: ReaderBuilder::new()
+                .has_headers(false)
+                .flexible(true)
+                .from_reader(alloc, bytes),
+            row: ByteRecord::new(alloc),
+        }
+    }
+
+    /// Goes on to the next record, and says whether there was one. Records of a slice that may have any width are never
+    /// refused, so that only memory can be wanting.
+    pub fn advance(&mut self) -> Result<bool, Memory>
+        ensures { IfOk result (λ found. Takes self.old.left found self.new) }
+    {
+        let Ok(found) = self.reader.read_byte_record(&mut self.row) else {
+            return Err(Memory);
+        };
+        Ok(found)
+    }
+
+    /// The record at hand.
+    pub fn fields(&self) -> &ByteRecord
+        ensures { result.now ≡ self.now.at_hand }
+    {
+        &self.row
+    }
+}
