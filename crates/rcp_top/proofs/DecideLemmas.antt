@@ -6,7 +6,10 @@ use Rattle.rcp_base.specs.Files.{Files, IfTold, IsLonger, IsMissing, Rises}
 use Rattle.rcp_model.specs.declared.plan.PlanParts.{PlanParts}
 use Rattle.rcp_top.specs.declared.answer.Answer.{Answer}
 use Rattle.rcp_top.specs.declared.answer.Answer.TheVariants as answer
-use Rattle.rcp_top.specs.declared.unread.Unread.TheVariants.{Unbuilt}
+use Rattle.fault_journal.specs.declared.fault.JournalFault.{JournalFault}
+use Rattle.fault_journal.specs.declared.fault.JournalFault.TheVariants as journal_fault
+use Rattle.fault_journal.specs.History.{journal_verdict}
+use Rattle.fault_journal.specs.Journal.{journal_rows, rows_in, records_of}
 use Rattle.task_file.specs.declared.fault.FileFault.{FileFault}
 use Rattle.task_file.specs.declared.fault.FileFault.TheVariants as fault
 use Rattle.task_file.specs.Verdict.{Verdict, IsFault}
@@ -15,15 +18,18 @@ use Rattle.task_file.specs.Shape.{sections_of}
 use Rattle.task_file.specs.TaskFile.{task_file_verdict, document_of, parts_in}
 use Rattle.rcp_top.specs.Ending.{EndsOverSeen, HasCause}
 use Rattle.rcp_top.specs.Lines.{is_memory}
-use Rattle.rcp_top.specs.Outcome.{ideal_words, file_words, files_named, of_words, outcome_of_answer, of_frames, of_plan, unreadable, usage, journal_refused, task_refused}
+use Rattle.rcp_top.specs.Outcome.{ideal_words, file_words, files_named, of_words, outcome_of_answer, of_history, of_plan, unreadable, usage, journal_refused, task_refused}
 use Rattle.rcp_top.specs.Seen.{IsOfJournal, IsOfPlan, IsOfFiles}
-use Rattle.rcp_top.specs.SmallJournal.{small_journal, frames_of_records, records_of}
 use Rattle.rcp_top.proofs.SeenLemmas.{seen_files, seen_more}
 
 -- a journal over the limit is refused
-long_journal : (bytes : List ℕ) → 67108864 < length bytes → small_journal bytes ≡ Err Unbuilt
-unfolding small_journal
-long_journal bytes longer = ap (λ b. cond b (frames_of_records (records_of bytes)) (Err Unbuilt)) (lt-leb (length bytes) 67108864 longer)
+long_rows : (plan : PlanParts) (bytes : List ℕ) → 67108864 < length bytes → journal_rows plan bytes ≡ Err journal_fault.TooLong
+unfolding journal_rows
+long_rows plan bytes longer = ap (λ b. cond b (rows_in plan (records_of bytes)) (Err journal_fault.TooLong)) (lt-leb (length bytes) 67108864 longer)
+
+long_journal : (plan : PlanParts) (bytes : List ℕ) → 67108864 < length bytes → journal_verdict plan bytes ≡ Err journal_fault.TooLong
+unfolding journal_verdict
+long_journal plan bytes longer = rw (long_rows plan bytes longer) refl
 
 -- a task file over the limit is refused
 long_file : (bytes : List ℕ) → 1048576 < length bytes → task_file_verdict bytes ≡ Err fault.TooLong
@@ -32,19 +38,19 @@ long_file bytes longer =
     ap (λ b. cond b (document_of bytes >>= sections_of >>= parts_in) (Err fault.TooLong)) (lt-leb (length bytes) 1048576 longer)
 
 pub journal_was_read : (told : Option Files) (plan : PlanParts) (journal bytes : List ℕ) (failed : Type 0) (result : Result Answer Memory)
-    → IfTold told (λ files. files journal ≡ Some bytes) → IfOk result (λ answer. outcome_of_answer answer ≡ of_frames plan (small_journal bytes))
+    → IfTold told (λ files. files journal ≡ Some bytes) → IfOk result (λ answer. outcome_of_answer answer ≡ of_history plan (journal_verdict plan bytes))
     → IfOk result (λ answer. IfTold told (λ files. IsOfJournal plan journal (files journal) failed (outcome_of_answer answer)))
 journal_was_read told plan journal bytes failed (Err e) held due = tt
 journal_was_read None plan journal bytes failed (Ok answer) held due = tt
 journal_was_read (Some files) plan journal bytes failed (Ok answer) held due = record { seen = Some bytes; is_seen = inl (sym held); is_due = due }
 
 pub journal_was_too_long : (told : Option Files) (plan : PlanParts) (journal : List ℕ) (failed : Type 0)
-    → IfTold told (λ files. IsLonger files journal 67108864) → IfTold told (λ files. IsOfJournal plan journal (files journal) failed journal_refused)
+    → IfTold told (λ files. IsLonger files journal 67108864) → IfTold told (λ files. IsOfJournal plan journal (files journal) failed (journal_refused journal_fault.TooLong))
 journal_was_too_long None plan journal failed long = tt
 journal_was_too_long (Some files) plan journal failed long = record {
   seen = Some long.bytes;
   is_seen = inl (sym long.held);
-  is_due = ap (of_frames plan) (sym (long_journal long.bytes long.longer));
+  is_due = ap (of_history plan) (sym (long_journal plan long.bytes long.longer));
 }
 
 -- a fault that is not want of memory is the definition's
@@ -85,8 +91,8 @@ cause_since_count told before between now words (answer.Unreadable name) later (
 cause_since_count told before between now words (answer.Unreadable name) later (inr missing) = inr missing
 cause_since_count told before between now words answer.Usage later cause = tt
 cause_since_count told before between now words (answer.TaskRefused why) later cause = tt
-cause_since_count told before between now words answer.JournalRefused later cause = tt
-cause_since_count told before between now words (answer.Ideal plan frames) later cause = tt
+cause_since_count told before between now words (answer.JournalRefused fault) later cause = tt
+cause_since_count told before between now words (answer.Ideal plan journal) later cause = tt
 
 -- the cause of an answer that was read from a later count on
 pub cause_since : (told told_then : Option Files) (before between now : ℕ) (words : List (List ℕ)) (result : Result Answer Memory)

@@ -1,7 +1,5 @@
-mod RecordLemmas
-mod DigitLemmas
-mod JournalLemmas
 mod FrameLemmas
+mod HistoryLemmas
 mod VoteLemmas
 mod EndingLemmas
 mod SeenLemmas

@@ -37,8 +37,8 @@ abbrev pub HasCause : Option Files → ℕ → ℕ → List (List ℕ) → Answe
 HasCause told before now names (answer.Unreadable word) = Rises before now ⊎ IsMissingOne told names
 HasCause told before now names answer.Usage = ⊤
 HasCause told before now names (answer.TaskRefused fault) = ⊤
-HasCause told before now names answer.JournalRefused = ⊤
-HasCause told before now names (answer.Ideal plan frames) = ⊤
+HasCause told before now names (answer.JournalRefused fault) = ⊤
+HasCause told before now names (answer.Ideal plan journal) = ⊤
 
 -- the status where a text was written, or not
 abbrev pub status_after : {T : Type 0} → Status → Result T WriteError → Status

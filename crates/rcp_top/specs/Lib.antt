@@ -1,5 +1,3 @@
-pub mod Unread
-pub mod SmallJournal
 pub mod Lines
 pub mod Outcome
 pub mod Ending

@@ -1,20 +1,22 @@
 -- What a call is to answer and to write, over the words and the files.
-use Rattle.std.specs.Prelude.{ℕ, ℤ, List, [], ◌∷◌, ◌++◌, length, codes, flat_map, replicate, Option, Some, None, Result, Ok, Err, if◌then◌else◌}
+use Rattle.std.specs.Prelude.{ℕ, ℤ, List, [], ◌∷◌, ◌++◌, length, codes, map, flat_map, Option, Some, None, Result, Ok, Err, if◌then◌else◌}
 use Rattle.std.specs.Str.{bytes_eq}
 use Rattle.rcp_base.specs.Files.{Files}
 use Rattle.rcp_model.specs.declared.plan.ActuatorRow.{ActuatorRow}
 use Rattle.rcp_model.specs.declared.plan.PlanParts.{PlanParts}
-use Rattle.rcp_model.specs.Uniprocessor.{ProcessorState, initial_values, ideal_state, ideal_command}
+use Rattle.rcp_model.specs.FrameRows.{FrameRows, History}
+use Rattle.rcp_model.specs.Uniprocessor.{ProcessorState, ideal_state, ideal_command}
 use Rattle.task_file.specs.declared.fault.FileFault.{FileFault}
 use Rattle.task_file.specs.Verdict.{Verdict}
 use Rattle.task_file.specs.TaskFile.{task_file_verdict}
+use Rattle.fault_journal.specs.declared.fault.JournalFault.{JournalFault}
+use Rattle.fault_journal.specs.History.{journal_verdict}
+use Rattle.fault_journal.specs.Telling.{history_in}
 use Rattle.rcp_top.specs.declared.answer.Answer.{Answer}
 use Rattle.rcp_top.specs.declared.answer.Answer.TheVariants as answer
 use Rattle.rcp_top.specs.declared.status.Status.{Status}
 use Rattle.rcp_top.specs.declared.status.Status.TheVariants as status
-use Rattle.rcp_top.specs.declared.unread.Unread.{Unread}
 use Rattle.rcp_top.specs.Lines.{frame_line, vote_line, ideal_line, end_line, unreadable_line, usage_line, task_refused_line, journal_refused_line}
-use Rattle.rcp_top.specs.SmallJournal.{small_journal}
 
 -- a status and a text
 pub record Outcome : Type 0 where
@@ -40,9 +42,9 @@ frames_text plan past (sensors ∷ frames) =
 unfoldable pub ideal_text : PlanParts → List (List ℤ) → List ℕ
 ideal_text plan frames = frames_text plan [] frames ++ end_line (length frames)
 
--- the sensors of frames in which no sensor changes
-abbrev pub unchanged : PlanParts → ℕ → List (List ℤ)
-unchanged plan frames = replicate frames (initial_values plan.sensors)
+-- the sensor values of each frame
+abbrev pub sensors_in : History → List (List ℤ)
+sensors_in history = map (λ (rows : FrameRows). rows.sensors) history
 
 -- the words are no form
 abbrev pub usage : Outcome
@@ -52,27 +54,27 @@ usage = record { status = status.Usage; text = usage_line }
 abbrev pub task_refused : FileFault → Outcome
 task_refused fault = record { status = status.TaskRefused; text = task_refused_line fault }
 
--- the journal is none
-abbrev pub journal_refused : Outcome
-journal_refused = record { status = status.JournalRefused; text = journal_refused_line }
+-- the journal has this fault
+abbrev pub journal_refused : JournalFault → Outcome
+journal_refused fault = record { status = status.JournalRefused; text = journal_refused_line fault }
 
 -- no file was read under this word
 abbrev pub unreadable : List ℕ → Outcome
 unreadable word = record { status = status.ReadFault; text = unreadable_line word }
 
--- a run of the single processor over so many frames
-abbrev pub ideal_run : PlanParts → ℕ → Outcome
-ideal_run plan frames = record { status = status.Done; text = ideal_text plan (unchanged plan frames) }
+-- a run of the single processor over these frames
+abbrev pub ideal_run : PlanParts → History → Outcome
+ideal_run plan history = record { status = status.Done; text = ideal_text plan (sensors_in history) }
 
--- the outcome by what the journal gives: so many frames, or that it is none
-abbrev pub of_frames : PlanParts → Result ℕ Unread → Outcome
-of_frames plan (Ok frames) = ideal_run plan frames
-of_frames plan (Err unread) = journal_refused
+-- the outcome by what the journal gives: the rows of all frames, or a fault
+abbrev pub of_history : PlanParts → Result History JournalFault → Outcome
+of_history plan (Ok history) = ideal_run plan history
+of_history plan (Err fault) = journal_refused fault
 
 -- the outcome by what is held under the journal's word
 abbrev pub of_journal : PlanParts → List ℕ → Option (List ℕ) → Outcome
 of_journal plan word None = unreadable word
-of_journal plan word (Some bytes) = of_frames plan (small_journal bytes)
+of_journal plan word (Some bytes) = of_history plan (journal_verdict plan bytes)
 
 -- the outcome by what the task file gives: the parts of a plan, or a fault
 abbrev pub of_plan : List ℕ → Option (List ℕ) → Verdict PlanParts → Outcome
@@ -111,5 +113,5 @@ abbrev pub outcome_of_answer : Answer → Outcome
 outcome_of_answer answer.Usage = usage
 outcome_of_answer (answer.Unreadable word) = unreadable word.now
 outcome_of_answer (answer.TaskRefused fault) = task_refused fault
-outcome_of_answer answer.JournalRefused = journal_refused
-outcome_of_answer (answer.Ideal plan frames) = ideal_run plan frames
+outcome_of_answer (answer.JournalRefused fault) = journal_refused fault
+outcome_of_answer (answer.Ideal plan journal) = ideal_run plan (history_in plan journal)

@@ -3,6 +3,7 @@ use Rattle.std.specs.Prelude.{◌≡◌, ℕ, List, ⊤, Option}
 use Rattle.rcp_model.specs.declared.plan.PlanParts.{PlanParts}
 use Rattle.rcp_top.specs.declared.answer.Answer.{Answer}
 use Rattle.rcp_top.specs.declared.answer.Answer.TheVariants as answer
+use Rattle.fault_journal.specs.Telling.{IsJournalOf}
 use Rattle.task_file.specs.Verdict.{Verdict}
 use Rattle.rcp_top.specs.Ending.{IsSeen}
 use Rattle.rcp_top.specs.Outcome.{Outcome, of_journal, of_plan, of_files}
@@ -32,5 +33,13 @@ abbrev pub IsNotUnreadable : Answer → Type 0
 IsNotUnreadable (answer.Unreadable word) = ⊥
 IsNotUnreadable answer.Usage = ⊤
 IsNotUnreadable (answer.TaskRefused fault) = ⊤
-IsNotUnreadable answer.JournalRefused = ⊤
-IsNotUnreadable (answer.Ideal plan frames) = ⊤
+IsNotUnreadable (answer.JournalRefused fault) = ⊤
+IsNotUnreadable (answer.Ideal plan journal) = ⊤
+
+-- a journal that is to be run is one of the plan, before its first frame
+abbrev pub IsReady : Answer → Type 0
+IsReady (answer.Ideal plan journal) = IsJournalOf plan journal
+IsReady (answer.Unreadable word) = ⊤
+IsReady answer.Usage = ⊤
+IsReady (answer.TaskRefused fault) = ⊤
+IsReady (answer.JournalRefused fault) = ⊤

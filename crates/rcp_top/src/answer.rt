@@ -1,5 +1,6 @@
 //! What the words and the files make due, once all is read and before anything is written.
 //! This project's own.
+use fault_journal::{Journal, JournalFault};
 use rcp_model::Plan;
 use task_file::FileFault;
 
@@ -10,7 +11,7 @@ pub enum Answer<'a> {
     /// The file under this word was not read.
     Unreadable(&'a str),
     TaskRefused(FileFault),
-    JournalRefused,
+    JournalRefused(JournalFault),
     /// The run of one faultless processor.
-    Ideal { plan: Plan, frames: u32 },
+    Ideal { plan: Plan, journal: Journal },
 }

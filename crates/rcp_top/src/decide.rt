@@ -4,14 +4,13 @@ ghost use Rattle.std.specs.Prelude.{◌≡◌, ◌≤◌, ◌∷◌, [], IfOk, m
 ghost use Rattle.rcp_base.specs.Files.{IfTold, Rises};
 ghost use Rattle.task_file.specs.TaskFile.{task_file_verdict};
 ghost use Rattle.rcp_top.specs.Ending.{EndsOverSeen, HasCause};
-ghost use Rattle.rcp_top.specs.Lines.{is_memory};
+ghost use Rattle.rcp_top.specs.Lines.{is_memory, is_journal_memory};
 ghost use Rattle.rcp_top.specs.Outcome as spec;
 ghost use Rattle.rcp_top.specs.Seen as seen;
-ghost use Rattle.rcp_top.specs.SmallJournal.{small_journal};
+ghost use Rattle.fault_journal.specs.History.{journal_verdict};
 
 use crate::answer::Answer;
-use crate::small_journal::small_journal;
-use crate::unread::Unread;
+use fault_journal::{Journal, JournalFault};
 use rcp_base::{Folder, MAX_JOURNAL, MAX_TASK_FILE, Memory, ReadError};
 use rcp_model::Plan;
 use std::alloc::Global;
@@ -28,6 +27,7 @@ pub fn decide<'a, F: Folder>(
     ensures cause { IfOk result (HasCause (F.files folder.old) (F.faults folder.old) (F.faults folder.new)
         (spec.files_named (map (λ word. string_bytes word) words.now))) }
     ensures files { F.files folder.new ≡ F.files folder.old }
+    ensures ready { IfOk result seen.IsReady }
 {
     match ideal_words(words) {
         Some((file, journal)) => decide_ideal(alloc, file, journal, folder),
@@ -62,6 +62,7 @@ fn decide_ideal<'a, F: Folder>(
         seen.IsOfFiles file.now journal.now (files file.now) (files journal.now) (Rises (F.faults folder.old) (F.faults folder.new)) (spec.outcome_of_answer answer))) }
     ensures cause { IfOk result (HasCause (F.files folder.old) (F.faults folder.old) (F.faults folder.new) (file.now ∷ journal.now ∷ [])) }
     ensures files { F.files folder.new ≡ F.files folder.old }
+    ensures ready { IfOk result seen.IsReady }
 {
     let mut bytes = Vec::new(alloc);
     match folder.read(alloc, file, MAX_TASK_FILE, &mut bytes) {
@@ -83,6 +84,7 @@ fn with_task_file<'a, F: Folder>(
         seen.IsOfPlan journal.now (files journal.now) (Rises (F.faults folder.old) (F.faults folder.new)) (task_file_verdict bytes.now) (spec.outcome_of_answer answer))) }
     ensures cause { IfOk result (HasCause (F.files folder.old) (F.faults folder.old) (F.faults folder.new) (journal.now ∷ [])) }
     ensures files { F.files folder.new ≡ F.files folder.old }
+    ensures ready { IfOk result seen.IsReady }
     ensures later { F.faults folder.old ≤ F.faults folder.new }
 {
     match read_plan(alloc, bytes) {
@@ -114,12 +116,13 @@ fn with_plan<'a, F: Folder>(
         seen.IsOfJournal plan journal.now (files journal.now) (Rises (F.faults folder.old) (F.faults folder.new)) (spec.outcome_of_answer answer))) }
     ensures cause { IfOk result (HasCause (F.files folder.old) (F.faults folder.old) (F.faults folder.new) (journal.now ∷ [])) }
     ensures files { F.files folder.new ≡ F.files folder.old }
+    ensures ready { IfOk result seen.IsReady }
     ensures later { F.faults folder.old ≤ F.faults folder.new }
 {
     let mut bytes = Vec::new(alloc);
     match folder.read(alloc, journal, MAX_JOURNAL, &mut bytes) {
         Ok(()) => with_journal(alloc, plan, bytes.as_slice()),
-        Err(ReadError::TooLong) => Ok(Answer::JournalRefused),
+        Err(ReadError::TooLong) => Ok(Answer::JournalRefused(JournalFault::TooLong)),
         Err(ReadError::Failed) => Ok(Answer::Unreadable(journal)),
         Err(ReadError::Memory) => Err(Memory),
     }
@@ -127,12 +130,24 @@ fn with_plan<'a, F: Folder>(
 
 // What is due of a plan and a journal's bytes.
 fn with_journal<'a>(alloc: Global, plan: Plan, bytes: &[u8]) -> Result<Answer<'a>, Memory>
-    ensures due { IfOk result (λ answer. spec.outcome_of_answer answer ≡ spec.of_frames plan (small_journal bytes.now)) }
+    ensures due { IfOk result (λ answer. spec.outcome_of_answer answer ≡ spec.of_history plan (journal_verdict plan bytes.now)) }
     ensures read { IfOk result seen.IsNotUnreadable }
+    ensures ready { IfOk result seen.IsReady }
 {
-    match small_journal(alloc, bytes) {
-        Ok(frames) => Ok(Answer::Ideal { plan, frames }),
-        Err(Unread::Unbuilt) => Ok(Answer::JournalRefused),
-        Err(Unread::Memory) => Err(Memory),
+    match Journal::check(alloc, &plan, bytes) {
+        Ok(journal) => Ok(Answer::Ideal { plan, journal }),
+        Err(fault) => {
+            if is_journal_memory(&fault) {
+                Err(Memory)
+            } else {
+                Ok(Answer::JournalRefused(fault))
+            }
+        }
     }
+}
+
+fn is_journal_memory(fault: &JournalFault) -> bool
+    ensures { result ≡ is_journal_memory fault.now }
+{
+    matches!(fault, JournalFault::Memory)
 }

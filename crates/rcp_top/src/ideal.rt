@@ -1,7 +1,10 @@
 //! Writes the run of one faultless processor, one line at a time.
 //! After NASA TM-102716.
-ghost use Rattle.std.specs.Prelude.{◌≡◌, ◌^◌, ◌<◌, ℕ, ℤ, List, [], ◌∷◌, length, replicate, slice_index_or, IfOk};
+ghost use Rattle.std.specs.Prelude.{◌≡◌, ◌^◌, ◌<◌, ℕ, ℤ, List, [], ◌∷◌, length, slice_index_or, IfOk};
 ghost use Rattle.rcp_base.specs.Writing.{Writes};
+ghost use Rattle.fault_journal.specs.Telling.{IsJournalOf, history_in};
+ghost use Rattle.layer_stack.specs.Inputs.{IsHistoryOf};
+ghost use Rattle.rcp_model.specs.FrameRows.{History, AreRowsOf, no_rows};
 ghost use Rattle.rcp_model.specs.Uniprocessor as uniprocessor;
 ghost use Rattle.rcp_model.specs.declared.plan.ActuatorRow.{ActuatorRow};
 ghost use Rattle.rcp_model.specs.declared.plan.PlanParts.{PlanParts};
@@ -9,10 +12,12 @@ ghost use Rattle.uniproc_layer.specs.Uni.{StandsAfter};
 ghost use Rattle.rcp_top.specs.Outcome as spec;
 
 use crate::lines::{end_line, frame_line, ideal_line, vote_line};
+use fault_journal::Journal;
+use layer_stack::{FrameIn, Inputs};
 use rcp_base::{Memory, Sink, WriteError};
 use rcp_model::{Plan, PlanParts};
 use std::alloc::Global;
-use uniproc_layer::{Uni, initial_values};
+use uniproc_layer::Uni;
 
 /// Writes a line by one call of the sink, if there was memory for it.
 #[tactic(auto, using(rcp_base::proofs::WritingLaws::writes_nothing))]
@@ -72,39 +77,62 @@ fn write_frame<S: Sink>(
     send(out, ideal_line(alloc, uni.slot() as u64, uni.cells()))
 }
 
-// Runs so many frames with these sensors from the first one on, and writes their lines and the end line.
-fn run_frames<S: Sink>(
+// Runs all frames of the inputs, and writes their lines and the end line.
+fn run_frames<I: Inputs, S: Sink>(
     alloc: Global,
     plan: &PlanParts,
     uni: &mut Uni,
-    frames: u32,
-    sensors: &[i64],
+    inputs: &mut I,
+    input: &mut FrameIn,
     out: &mut S,
 ) -> Result<(), WriteError>
     requires few { length plan.now.actuators < 2 ^ 32 }
     requires start { StandsAfter plan.now [] uni.old }
-    ensures { Writes (S.written out.old) (S.written out.new) (S.faults out.old) (S.faults out.new) result
-        (spec.ideal_text plan.now (replicate frames sensors.now)) }
+    requires inputs { (history : History) × I.tells inputs.old plan.now history × IsHistoryOf plan.now history }
+    requires first { I.done inputs.old ≡ 0 }
+    requires input { input.old ≡ no_rows plan.now (uniprocessor.initial_values plan.now.sensors) }
+    requires of_plan { AreRowsOf plan.now input.old }
+    ensures { (history : History) → I.tells inputs.old plan.now history → IsHistoryOf plan.now history
+        → Writes (S.written out.old) (S.written out.new) (S.faults out.old) (S.faults out.new) result
+        (spec.ideal_text plan.now (spec.sensors_in history)) }
 {
+    let frames = inputs.frames();
     for t in 0..frames {
-        uni.frame(sensors);
+        inputs.fill(input);
+        uni.frame(input.sensors());
         write_frame(alloc, plan, uni, t, out)?;
     }
     send(out, end_line(alloc, frames))
 }
 
-/// Writes the text of the single processor over frames in which no sensor changes.
+// Runs all frames of a journal by a processor before its first frame.
+fn run_journal<S: Sink>(
+    alloc: Global,
+    plan: &Plan,
+    uni: &mut Uni,
+    journal: &mut Journal,
+    out: &mut S,
+) -> Result<(), WriteError>
+    requires start { StandsAfter plan.now [] uni.old }
+    requires journal { IsJournalOf plan.now journal.old }
+    ensures { Writes (S.written out.old) (S.written out.new) (S.faults out.old) (S.faults out.new) result
+        (spec.ideal_text plan.now (spec.sensors_in (history_in plan.now journal.old))) }
+{
+    let mut input = FrameIn::new(alloc, plan)?;
+    run_frames(alloc, plan.parts(), uni, journal, &mut input, out)
+}
+
+/// Writes the text of the single processor over the frames of a journal.
 pub fn write_ideal<S: Sink>(
     alloc: Global,
     plan: &Plan,
-    frames: u32,
+    journal: &mut Journal,
     out: &mut S,
 ) -> Result<(), WriteError>
+    requires { IsJournalOf plan.now journal.old }
     ensures { Writes (S.written out.old) (S.written out.new) (S.faults out.old) (S.faults out.new) result
-        (spec.ideal_text plan.now (spec.unchanged plan.now frames)) }
+        (spec.ideal_text plan.now (spec.sensors_in (history_in plan.now journal.old))) }
 {
-    let parts = plan.parts();
-    let sensors = initial_values(alloc, parts.sensors.as_slice())?;
     let mut uni = Uni::new(alloc, plan)?;
-    run_frames(alloc, parts, &mut uni, frames, sensors.as_slice(), out)
+    run_journal(alloc, plan, &mut uni, journal, out)
 }

@@ -7,11 +7,8 @@ mod decide;
 mod ideal;
 pub mod laws;
 mod lines;
-mod records;
-mod small_journal;
 mod status;
 mod top;
-mod unread;
 mod write;
 
 pub use status::Status;

@@ -5,6 +5,7 @@ ghost use Rattle.std.specs.Fmt.{decimal, signed_decimal};
 ghost use Rattle.task_file.specs.PathText.{path_text};
 ghost use Rattle.rcp_top.specs.Lines as spec;
 
+use fault_journal::JournalFault;
 use rcp_base::{Memory, Name};
 use std::alloc::Global;
 use task_file::{FileFault, Path, path_text};
@@ -164,9 +165,41 @@ pub fn usage_line() -> &'static [u8]
     b"usage: ideal FILE JOURNAL | check FILE | thin FILE | replay FILE JOURNAL [rs|ds|da] | events FILE JOURNAL first|last | summary FILE JOURNAL | gen FILE NUMBER FRAMES\n"
 }
 
+/// `journal refused: FAULT`
 #[tactic(auto, unfolding(crate::specs::Lines::journal_refused_line))]
-pub fn journal_refused_line() -> &'static [u8]
-    ensures { result.now ≡ spec.journal_refused_line }
+pub fn journal_refused_line(alloc: Global, fault: JournalFault) -> Result<Vec<u8>, Memory>
+    ensures { IfOk result (λ line. line.items ≡ spec.journal_refused_line fault) }
 {
-    b"journal refused: unbuilt\n"
+    let mut line = Vec::new(alloc);
+    put(&mut line, b"journal refused: ")?;
+    put_journal_fault(alloc, &mut line, fault)?;
+    put(&mut line, b"\n")?;
+    Ok(line)
+}
+
+fn put_journal_fault(alloc: Global, line: &mut Vec<u8>, fault: JournalFault) -> Result<(), Memory>
+    ensures { OnOk result (line.new.items ≡ line.old.items ++ spec.journal_fault_text fault) }
+{
+    match fault {
+        JournalFault::TooLong => put(line, b"J01"),
+        JournalFault::Width { row } => put_row(alloc, line, b"J02 row ", row),
+        JournalFault::Header => put(line, b"J03"),
+        JournalFault::Kind { row } => put_row(alloc, line, b"J04 row ", row),
+        JournalFault::Column { row, column } => {
+            put_row(alloc, line, b"J05 row ", row)?;
+            put_row(alloc, line, b" column ", column)
+        }
+        JournalFault::Order { row } => put_row(alloc, line, b"J06 row ", row),
+        JournalFault::Limit { row } => put_row(alloc, line, b"J07 row ", row),
+        JournalFault::Repeated { row } => put_row(alloc, line, b"J08 row ", row),
+        JournalFault::End { row } => put_row(alloc, line, b"J09 row ", row),
+        JournalFault::Memory => Ok(()),
+    }
+}
+
+fn put_row(alloc: Global, line: &mut Vec<u8>, label: &[u8], number: u32) -> Result<(), Memory>
+    ensures { OnOk result (line.new.items ≡ line.old.items ++ (label.now ++ decimal number)) }
+{
+    put(line, label)?;
+    put_count(alloc, line, number as u64)
 }

@@ -1,13 +1,13 @@
 //! What the program prints, with expected values that were worked by hand from the rules.
 //! This project's own.
 mod files;
+mod journals;
 
 use crate::{Status, rcp};
-use files::{COUNTER, MOTOR, PITCH};
+use files::{COUNTER, MOTOR};
 use rcp_base::{MemFolder, MemSink, Sink, SureFolder, SureSink, WriteError};
 use std::alloc::{AllocError, Global};
 use std::process::Abort;
-use std::str;
 use std::test::Fail;
 
 const TWO_FRAMES: &str = "frame,kind,a,b,c,d\n2,end,,,,\n";
@@ -23,8 +23,6 @@ end 2
 
 const USAGE: &str =
     "usage: ideal FILE JOURNAL | check FILE | thin FILE | replay FILE JOURNAL [rs|ds|da] | events FILE JOURNAL first|last | summary FILE JOURNAL | gen FILE NUMBER FRAMES\n";
-
-const JOURNAL_REFUSED: &str = "journal refused: unbuilt\n";
 
 // Parts of the counter's file, and what may stand in their place. A tilde is a line feed, in all such lines.
 const ACCEPTED: &str = r#"replicas = 3 => replicas = 9~sensor = []
@@ -161,28 +159,6 @@ not 0 + 1 => 0
 (1 + 2) * 3 => 9
 ";
 
-// Journals, with a slash for each line feed.
-const ACCEPTED_JOURNALS: &str = r#"frame,kind,a,b,c,d/1,end,,,,
-frame,kind,a,b,c,d//001,"end",,,,/
-"frame",kind,a,b,c,d/1,end,"",,,/
-"#;
-
-const REFUSED_JOURNALS: &str = r#"frame,kind,a,b,c,d/
-frame,kind,a,b,c/1,end,,,,/
-1,end,,,,/
-frame,kind,a,b,c,d/0,end,,,,/
-frame,kind,a,b,c,d/-1,end,,,,/
-frame,kind,a,b,c,d/+1,end,,,,/
-frame,kind,a,b,c,d/1 ,end,,,,/
-frame,kind,a,b,c,d/1000001,end,,,,/
-frame,kind,a,b,c,d/4294967297,end,,,,/
-frame,kind,a,b,c,d/,end,,,,/
-frame,kind,a,b,c,d/1,end,,,/
-frame,kind,a,b,c,d/1,end,,,,0/
-frame,kind,a,b,c,d/1,end,,,,/2,end,,,,/
-frame,kind,a,b,c,d/0,down,1,,,/1,end,,,,/
-"#;
-
 fn words_of(alloc: Global, line: &str) -> Result<Vec<String>, AllocError> {
     let mut list = Vec::new(alloc);
     for word in line.split_whitespace() {
@@ -243,7 +219,11 @@ fn files_that_are_missing_are_unreadable(rt: HostRuntime) -> Result<(), Fail> {
         ("ideal X Y", Status::ReadFault, "unreadable: X\n"),
         ("ideal B Y", Status::TaskRefused, "task file refused: E02\n"),
         ("ideal T Y", Status::ReadFault, "unreadable: Y\n"),
-        ("ideal T T", Status::JournalRefused, JOURNAL_REFUSED),
+        (
+            "ideal T T",
+            Status::JournalRefused,
+            "journal refused: J03\n",
+        ),
     ] {
         check(&rt, rt.alloc(), line, COUNTER, TWO_FRAMES, (status, text))?;
     }
@@ -343,32 +323,6 @@ fn other_task_files_are_accepted(rt: HostRuntime) -> Result<(), Fail> {
     Ok(())
 }
 
-// A journal with a line feed for each slash.
-fn journal_of(alloc: Global, line: &str) -> Result<String, AllocError> {
-    let mut text = String::new(alloc);
-    for part in line.split('/') {
-        text.push_str(part)?;
-        text.push_str("\n")?;
-    }
-    Ok(text)
-}
-
-#[test]
-fn journals_are_the_header_and_an_end(rt: HostRuntime) -> Result<(), Fail> {
-    let alloc = rt.alloc();
-    for line in ACCEPTED_JOURNALS.lines() {
-        let journal = journal_of(alloc, line)?;
-        let status = status_of(alloc, COUNTER, journal.as_str())?;
-        assert_eq!(rt; status, Status::Done, "{line}");
-    }
-    for line in REFUSED_JOURNALS.lines() {
-        let journal = journal_of(alloc, line)?;
-        let due = (Status::JournalRefused, JOURNAL_REFUSED);
-        check(&rt, alloc, "ideal T J", COUNTER, journal.as_str(), due)?;
-    }
-    Ok(())
-}
-
 #[test]
 fn expressions_have_their_values(rt: HostRuntime) -> Result<(), Fail> {
     let alloc = rt.alloc();
@@ -435,73 +389,12 @@ fn each_line_is_one_write(rt: HostRuntime) -> Result<(), Fail> {
     Ok(())
 }
 
-const FOUR_FRAMES: &str = "frame,kind,a,b,c,d\n4,end,,,,\n";
-
-#[test]
-fn the_motor_runs_as_worked(rt: HostRuntime) -> Result<(), Fail> {
-    let alloc = rt.alloc();
-    let line = "name = \"cmd\"~initial = 0 => name = \"cmd\"~initial = 10";
-    let file = changed(alloc, MOTOR, line)?;
-    let expected = "frame 0
-vote motor 10
-ideal slot 1 cells 0 10 10
-frame 1
-vote motor 10
-ideal slot 0 cells 5 10 10
-frame 2
-vote motor 15
-ideal slot 1 cells 5 5 15
-frame 3
-vote motor 15
-ideal slot 0 cells 12 5 15
-end 4
-";
-    let due = (Status::Done, expected);
-    check(&rt, alloc, "ideal T J", file.as_str(), FOUR_FRAMES, due)?;
-    let still = "frame 0\nvote motor 0\nideal slot 1 cells 0 0 0\nend 1\n";
-    let one_frame = "frame,kind,a,b,c,d\n1,end,,,,\n";
-    check(
-        &rt,
-        alloc,
-        "ideal T J",
-        MOTOR,
-        one_frame,
-        (Status::Done, still),
-    )
-}
-
-#[test]
-fn the_pitch_control_runs_as_worked(rt: HostRuntime) -> Result<(), Fail> {
-    let alloc = rt.alloc();
-    let line =
-        "name = \"rate\"~initial = 0 => name = \"rate\"~initial = 8 && name = \"stick\"~initial = 0 => name = \"stick\"~initial = 100";
-    let file = changed(alloc, PITCH, line)?;
-    let mut folder = folder_of(alloc, file.as_str(), FOUR_FRAMES)?;
-    let words = words_of(alloc, "ideal T J")?;
-    let mut out = SureSink::new(alloc);
-    let status = rcp(alloc, words.as_slice(), &mut folder, &mut out);
-    assert_eq!(rt; status, Status::Done);
-    let text = str::from_utf8(out.bytes()).map_err(|_| "no text")?;
-    let votes = text.lines().filter(|line| line.starts_with("vote "));
-    assert_eq!(rt; votes.count(), 4);
-    assert!(rt; text.starts_with("frame 0\nvote elevator 0\n"));
-    for line in text
-        .lines()
-        .filter(|line| line.starts_with("vote "))
-        .skip(1)
-    {
-        assert_eq!(rt; line, "vote elevator 594");
-    }
-    assert!(rt; text.ends_with("ideal slot 0 cells 5 300 0 0 594\nend 4\n"));
-    Ok(())
-}
+const COMMANDED: &str = "frame,kind,a,b,c,d\n0,sensor,cmd,10,,\n4,end,,,,\n";
 
 #[test]
 fn a_write_that_fails_leaves_a_front(rt: HostRuntime) -> Result<(), Fail> {
     let alloc = rt.alloc();
-    let line = "name = \"cmd\"~initial = 0 => name = \"cmd\"~initial = 10";
-    let file = changed(alloc, MOTOR, line)?;
-    let mut folder = folder_of(alloc, file.as_str(), FOUR_FRAMES)?;
+    let mut folder = folder_of(alloc, MOTOR, COMMANDED)?;
     let words = words_of(alloc, "ideal T J")?;
     let mut out = MemSink::new(alloc);
     out.fail_at(3, 5)?;

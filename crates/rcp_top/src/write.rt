@@ -2,26 +2,31 @@
 //! This project's own.
 ghost use Rattle.std.specs.Prelude.{◌≡◌, ℕ, List, IfOk};
 ghost use Rattle.rcp_top.specs.Ending.{Ends, status_after};
-ghost use Rattle.rcp_top.specs.Outcome.{outcome_of_answer, task_refused, unreadable};
+ghost use Rattle.rcp_top.specs.Outcome.{outcome_of_answer, task_refused, journal_refused, unreadable};
+ghost use Rattle.rcp_top.specs.Seen.{IsReady};
 
 use crate::answer::Answer;
 use crate::ideal::{send, write_ideal};
 use crate::lines::{journal_refused_line, task_refused_line, unreadable_line, usage_line};
 use crate::status::Status;
+use fault_journal::JournalFault;
 use rcp_base::{Memory, Sink, WriteError};
 use std::alloc::Global;
 use task_file::FileFault;
 
 /// Writes what is due.
 pub fn write_answer<S: Sink>(alloc: Global, answer: Answer<'_>, out: &mut S) -> Status
+    requires { IsReady answer }
     ensures { Ends (outcome_of_answer answer.entry) result (S.written out.old) (S.written out.new) (S.faults out.old) (S.faults out.new) }
 {
     match answer {
         Answer::Usage => write_line(out, Status::Usage, usage_line()),
         Answer::Unreadable(word) => write_unreadable(alloc, word, out),
         Answer::TaskRefused(fault) => write_task_refused(alloc, fault, out),
-        Answer::JournalRefused => write_line(out, Status::JournalRefused, journal_refused_line()),
-        Answer::Ideal { plan, frames } => end(Status::Done, write_ideal(alloc, &plan, frames, out)),
+        Answer::JournalRefused(fault) => write_journal_refused(alloc, fault, out),
+        Answer::Ideal { plan, mut journal } => {
+            end(Status::Done, write_ideal(alloc, &plan, &mut journal, out))
+        }
     }
 }
 
@@ -57,4 +62,12 @@ fn write_task_refused<S: Sink>(alloc: Global, fault: FileFault, out: &mut S) -> 
 {
     let line: Result<Vec<u8>, Memory> = task_refused_line(alloc, fault);
     end(Status::TaskRefused, send(out, line))
+}
+
+#[tactic(auto, using(crate::proofs::EndingLemmas::ends_behind_write))]
+fn write_journal_refused<S: Sink>(alloc: Global, fault: JournalFault, out: &mut S) -> Status
+    ensures { Ends (journal_refused fault) result (S.written out.old) (S.written out.new) (S.faults out.old) (S.faults out.new) }
+{
+    let line: Result<Vec<u8>, Memory> = journal_refused_line(alloc, fault);
+    end(Status::JournalRefused, send(out, line))
 }

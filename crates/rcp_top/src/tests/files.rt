@@ -1,4 +1,4 @@
-//! Task files of the tests: the counter, the position loop and the pitch control of the examples.
+//! Task files of the tests: the counter, the motor, the pitch control and the position of the examples.
 //! This project's own.
 
 pub const COUNTER: &str = r#"replicas = 3
@@ -145,4 +145,13 @@ votes = []
 [[actuator]]
 name = "elevator"
 value = "out"
+"#;
+
+pub const POSITION: &str = r#"replicas = 1
+timing = { compute = 30000, broadcast = 10000, vote = 4000, sync = 6000, skew = 50, drift_ppm = 100, delay_min = 100, delay_max = 2000, skew_limit = 500, drift_limit_ppm = 500 }
+sensor = [{ name = "cmd", initial = 0 }]
+cell = [{ name = "pos", initial = 0 }, { name = "err", initial = 0 }]
+task = [{ name = "sense", body = "err := cmd - pos;" }, { name = "move", body = "pos := pos + err;" }]
+slot = [{ tasks = ["sense"], votes = [] }, { tasks = ["move"], votes = ["pos"] }]
+actuator = [{ name = "motor", value = "pos + (err - 1)" }]
 "#;
