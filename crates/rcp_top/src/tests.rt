@@ -1,6 +1,7 @@
 //! What the program prints, with expected values that were worked by hand from the rules.
 //! This project's own.
 mod files;
+mod frames;
 mod journals;
 
 use crate::{Status, rcp};

@@ -218,7 +218,7 @@ fn text_of(alloc: Global, line: &str) -> Result<String, AllocError> {
 }
 
 // A journal with these rows.
-fn journal_of(alloc: Global, rows: &str) -> Result<String, AllocError> {
+pub fn journal_of(alloc: Global, rows: &str) -> Result<String, AllocError> {
     let mut text = String::from_str(alloc, "frame,kind,a,b,c,d\n")?;
     text.push_str(text_of(alloc, rows)?.as_str())?;
     Ok(text)
