@@ -1,0 +1,4 @@
+pub mod Dependence
+pub mod Laws
+pub mod Masks
+pub mod Rows

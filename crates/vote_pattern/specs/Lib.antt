@@ -1,0 +1,4 @@
+pub mod Bits
+pub mod Votes
+pub mod PatternFields
+pub mod Laws
