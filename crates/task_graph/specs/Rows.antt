@@ -16,6 +16,10 @@ unfoldable pub needs_in : Rows → ℕ → ℕ → ℕ → Bool
 needs_in rows slot cell from =
     nat_lt slot rows.slots && nat_lt cell rows.cells && nat_lt from rows.cells && has_bit (slice_index_or rows.words (slot * rows.cells + cell) 0) from
 
+-- the bits of the word, as far as there are cells, are the cells that the cell needs in the slot
+abbrev pub AreNeeds : Rows → ℕ → ℕ → ℕ → Type 0
+AreNeeds rows slot cell word = (from : ℕ) → from < rows.cells → has_bit word from ≡ needs_in rows slot cell from
+
 -- the rows say of each slot which cell feeds which
 pub record IsDependenceOf (plan : PlanParts) (rows : Rows) : Type 0 where
   pub slots : rows.slots ≡ slot_count plan

@@ -8,7 +8,7 @@ mod masks;
 mod rows;
 mod words;
 
-pub use rows::DepRows;
+pub use rows::{DepRows, rows_of};
 
 #[cfg(test)]
 mod tests;

@@ -1,7 +1,7 @@
 //! Which cells each cell needs in each slot.
 //! This project's own.
 ghost use Rattle.std.specs.Prelude.{◌≡◌, ◌<◌, ◌≤◌, length, IfOk};
-ghost use Rattle.task_graph.specs.Rows.{needs_in, IsDependenceOf};
+ghost use Rattle.task_graph.specs.Rows.{AreNeeds, needs_in, IsDependenceOf};
 
 use crate::bits::has_bit;
 use crate::masks::task_rows;
@@ -60,6 +60,15 @@ impl DepRows {
         self.cells
     }
 
+    /// The cells that the cell needs in the slot, as bits.
+    pub fn word(&self, slot: u32, cell: u32) -> u64
+        requires slot { slot < self.now.slots }
+        requires cell { cell < self.now.cells }
+        ensures { AreNeeds self.now slot cell result }
+    {
+        self.words[slot as usize * self.cells as usize + cell as usize]
+    }
+
     /// The cell needs that other in the slot.
     pub fn needs(&self, slot: u32, cell: u32, from: u32) -> bool
         requires slot { slot < self.now.slots }
@@ -72,8 +81,8 @@ impl DepRows {
     }
 }
 
-// Which cells each cell of parts needs, whether or not they keep the other rules of a plan.
-pub(crate) fn rows_of(alloc: Global, parts: &PlanParts) -> Result<DepRows, Memory>
+/// Which cells each cell of parts needs, whether or not they keep the other rules of a plan.
+pub fn rows_of(alloc: Global, parts: &PlanParts) -> Result<DepRows, Memory>
     requires cells { length parts.now.cells ≤ 64 }
     requires slots { length parts.now.slots ≤ 32 }
     ensures { IfOk result (IsDependenceOf parts.now) }

@@ -1,0 +1,10 @@
+pub mod SearchLemmas
+pub mod OrderLemmas
+pub mod BitLemmas
+pub mod LevelLemmas
+pub mod CoreLemmas
+pub mod CycleLemmas
+pub mod GatherLemmas
+pub mod WalkLemmas
+pub mod MarkLemmas
+pub mod TransferLemmas

@@ -1,0 +1,41 @@
+use Rattle.std.proofs.Common.{◌≡◌, ◌+◌, ℕ, suc, reverse, ap, sym, ◌∙◌, subst, arith, refl}
+use Rattle.std.proofs.lemmas.Bool.{both_ways}
+use Rattle.recovery_analysis.specs.Graphs.{graph_of}
+use Rattle.recovery_analysis.specs.Levels.{back_node, is_core, back_times}
+use Rattle.recovery_analysis.specs.Witness.{IsWitnessCycle}
+use Rattle.recovery_analysis.proofs.GatherLemmas.{NotAgain, comes, gathered_nodes, gathered_more, not_again_more, gathered, around_core}
+use Rattle.recovery_analysis.proofs.cycles.gather.Goals as goal
+
+pub core_back-node-requires-clause-node : goal.core_back-node-requires-clause-node
+core_back-node-requires-clause-node c =
+    let g = graph_of c.args.rows.now c.args.pattern.now in
+    ap (is_core g) c.loop-i.invariant.node ∙ around_core g c.args.least c.requires.core c.requires.least c.loop-i._i
+
+pub returns-then-is_same : goal.returns-then-is_same
+returns-then-is_same c =
+    let g = graph_of c.args.rows.now c.args.pattern.now in
+    let t : ℕ = c.loop-i._i in
+    let next : c.core_back-node.result ≡ back_times g c.args.least (suc t) = c.core_back-node.ensures.value ∙ ap (back_node g) c.loop-i.invariant.node in
+    let nodes : c.push.new.self.items ≡ gathered_nodes g c.args.least (suc t) = gathered_more g c.args.least t c.loop-i.nodes.items c.push.new.self.items c.core_back-node.result c.loop-i.invariant.nodes next c.in_ok-push.ensures.items in
+    subst (IsWitnessCycle g) (sym (c.in_ok-list.ensures ∙ c.as_slice.ensures.value ∙ c.reverse.ensures.items ∙ ap reverse nodes))
+    (gathered g c.args.least t c.requires.core c.requires.least c.loop-i.invariant.fresh (sym next ∙ c.is_same.ensures.0 c.if-is_same.true))
+
+pub loop-i-preserved : goal.loop-i-preserved
+loop-i-preserved c =
+    let g = graph_of c.args.rows.now c.args.pattern.now in
+    let t : ℕ = c.loop-i._i in
+    let next : c.core_back-node.result ≡ back_times g c.args.least (suc t) = c.core_back-node.ensures.value ∙ ap (back_node g) c.loop-i.invariant.node in
+    let one : suc t ≡ t + 1 = omega arith in
+    record {
+      node = next ∙ ap (back_times g c.args.least) one;
+      nodes = gathered_more g c.args.least t c.loop-i.nodes.items c.push.new.self.items c.core_back-node.result c.loop-i.invariant.nodes next c.in_ok-push.ensures.items ∙ ap (gathered_nodes g c.args.least) one;
+      fresh = not_again_more g c.args.least t c.loop-i.invariant.fresh (λ e. both_ways c.is_same.result c.if-is_same.false (c.is_same.ensures.1 (next ∙ e)));
+    }
+
+pub unreachable-requires : goal.unreachable-requires
+unreachable-requires c =
+    let g = graph_of c.args.rows.now c.args.pattern.now in
+    comes g c.args.least c.requires.core c.requires.least (subst (NotAgain g c.args.least) (omega arith) c.loop-i.invariant.fresh)
+
+pub loop-i-init : goal.loop-i-init
+loop-i-init c = record { node = refl; nodes = c.new-nodes.ensures.items; fresh = λ q a b e. absurd (omega arith) }

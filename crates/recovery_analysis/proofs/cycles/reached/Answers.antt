@@ -1,0 +1,21 @@
+use Rattle.std.proofs.Common.{◌+◌, suc, ap, ◌∙◌, arith}
+use Rattle.recovery_analysis.specs.Graphs.{graph_of}
+use Rattle.recovery_analysis.specs.Walk.{node_count}
+use Rattle.recovery_analysis.specs.Levels.{back_node, is_core}
+use Rattle.recovery_analysis.proofs.CoreLemmas.{path_at, path_core}
+use Rattle.recovery_analysis.proofs.cycles.reached.Goals as goal
+
+pub core_back-node-requires-clause-node : goal.core_back-node-requires-clause-node
+core_back-node-requires-clause-node c =
+    let g = graph_of c.args.rows.now c.args.pattern.now in
+    ap (is_core g) c.loop-i.invariant ∙ path_core g c.requires.core c.loop-i._i
+
+pub loop-i-preserved : goal.loop-i-preserved
+loop-i-preserved c =
+    let g = graph_of c.args.rows.now c.args.pattern.now in
+    c.core_back-node.ensures.value ∙ ap (back_node g) c.loop-i.invariant ∙ path_at g (suc c.loop-i._i) (c.loop-i._i + 1) (omega arith)
+
+pub returns : goal.returns
+returns c =
+    let g = graph_of c.args.rows.now c.args.pattern.now in
+    c.loop-i.invariant ∙ path_at g c.loop-i._i (node_count g) (omega arith)

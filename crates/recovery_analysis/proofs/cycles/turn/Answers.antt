@@ -1,0 +1,55 @@
+use Rattle.std.proofs.Common.{◌≡◌, ◌+◌, ℕ, suc, inl, inr, ap, ◌∙◌, subst, arith}
+use Rattle.recovery_analysis.specs.Graphs.{graph_of}
+use Rattle.recovery_analysis.specs.Walk.{node_count}
+use Rattle.recovery_analysis.specs.Levels.{path, back_node, is_core}
+use Rattle.recovery_analysis.specs.Around.{period_of, TurnSoFar}
+use Rattle.recovery_analysis.proofs.LevelLemmas.{level_unvoted}
+use Rattle.recovery_analysis.proofs.CoreLemmas.{path_at, path_core}
+use Rattle.recovery_analysis.proofs.GatherLemmas.{turn_begin, turn_more, turn_end}
+use Rattle.recovery_analysis.proofs.cycles.turn.Goals.{then-number_of, else-number_of}
+use Rattle.recovery_analysis.proofs.cycles.turn.Goals as goal
+
+pub core_back-node-requires-clause-node : goal.core_back-node-requires-clause-node
+core_back-node-requires-clause-node c =
+    let g = graph_of c.args.rows.now c.args.pattern.now in
+    ap (is_core g) c.loop-i.invariant.node ∙ path_core g c.requires.core (c.loop-i._i + node_count g)
+
+pub number_of-requires : goal.number_of-requires
+number_of-requires c =
+    let g = graph_of c.args.rows.now c.args.pattern.now in
+    let u = level_unvoted g (node_count g) c.core_back-node.result c.core_back-node.ensures.core in
+    record { slot_in = u.slot_in; cell_in = u.cell_in }
+
+pub number_of-requires-in-loop-i : goal.number_of-requires-in-loop-i
+number_of-requires-in-loop-i c =
+    let g = graph_of c.args.rows.now c.args.pattern.now in
+    let t = c.loop-i.invariant.turn in
+    let u = level_unvoted g (node_count g) c.loop-i.least (ap (is_core g) t.is ∙ path_core g c.requires.core (t.s + node_count g)) in
+    record { slot_in = u.slot_in; cell_in = u.cell_in }
+
+pub loop-i-preserved : goal.loop-i-preserved
+loop-i-preserved c =
+    let g = graph_of c.args.rows.now c.args.pattern.now in
+    let e : c.core_back-node.result ≡ path g (c.loop-i._i + 1 + node_count g) =
+    c.core_back-node.ensures.value ∙ ap (back_node g) c.loop-i.invariant.node ∙ path_at g (suc (c.loop-i._i + node_count g)) (c.loop-i._i + 1 + node_count g) (omega arith) in
+    record {
+      node = e;
+      turn = turn_more g c.loop-i._i c.loop-i.least c.core_back-node.result c.if-number_of.least c.requires.core c.loop-i.invariant.turn e
+          (elim c.if-number_of.branch [
+            | then-number_of w ↦ inl (omega arith, w.least-is)
+            | else-number_of w ↦ inr (omega arith, w.least-is)
+          ]);
+    }
+
+pub returns : goal.returns
+returns c =
+    let g = graph_of c.args.rows.now c.args.pattern.now in
+    turn_end g c.loop-i.least c.requires.core (subst (λ (x : ℕ). TurnSoFar g (period_of g) x c.loop-i.least) (omega arith) c.loop-i.invariant.turn)
+
+pub loop-i-init : goal.loop-i-init
+loop-i-init c =
+    let g = graph_of c.args.rows.now c.args.pattern.now in
+    record {
+      node = c.requires.reached ∙ path_at g (node_count g) (0 + node_count g) (omega arith);
+      turn = turn_begin g c.args.reached c.requires.core c.requires.reached;
+    }

@@ -1,0 +1,12 @@
+use Rattle.std.proofs.Common.{◌≡◌, ◌+◌}
+use Rattle.recovery_analysis.specs.Graphs.{graph_of}
+use Rattle.recovery_analysis.specs.Walk.{node_count}
+use Rattle.recovery_analysis.specs.Levels.{path}
+use Rattle.recovery_analysis.specs.Around.{period_of, TurnSoFar}
+use Rattle.recovery_analysis.proofs.cycles.turn.Given as goal
+
+abbrev pub invariant-loop-i : goal.invariant-loop-i
+invariant-loop-i l = let g = graph_of l.rows l.pattern in record {
+  node : l.node ≡ path g (l._i + node_count g);
+  turn : TurnSoFar g (period_of g) l._i l.least;
+}

@@ -1,0 +1,7 @@
+use Rattle.std.proofs.Common.{◌≡◌, ◌<◌, ℕ, false}
+use Rattle.recovery_analysis.specs.Graphs.{graph_of}
+use Rattle.recovery_analysis.specs.Levels.{level, make_node}
+use Rattle.recovery_analysis.proofs.walks.least.Given as goal
+
+abbrev pub invariant-loop-slot : goal.invariant-loop-slot
+invariant-loop-slot l = (r d : ℕ) → r < l.slot → level (graph_of l.rows l.pattern) l.depth (make_node r d) ≡ false
