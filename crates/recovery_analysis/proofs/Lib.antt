@@ -1,5 +1,6 @@
 pub mod SearchLemmas
 pub mod OrderLemmas
+pub mod UniqueLemmas
 pub mod BitLemmas
 pub mod LevelLemmas
 pub mod CoreLemmas

@@ -1,8 +1,8 @@
 -- What follows from the definitions of unvoted walks, for all graphs. This project's own.
-use Rattle.std.specs.Prelude.{◌↔◌, ◌+◌, List}
+use Rattle.std.specs.Prelude.{◌≡◌, ◌↔◌, ◌+◌, List, length}
 use Rattle.recovery_analysis.specs.declared.node.Node.{Node}
 use Rattle.recovery_analysis.specs.Walk.{Graph, IsUnvotedCycle, EndsWalk, node_count}
-use Rattle.recovery_analysis.specs.Witness.{IsWitnessCycle}
+use Rattle.recovery_analysis.specs.Witness.{IsWitnessCycle, IsWitnessWalk}
 
 -- there is an unvoted cycle exactly where there is an unvoted walk of one node more than there are nodes
 abbrev pub CycleIffLongWalk : Type 0
@@ -12,3 +12,11 @@ CycleIffLongWalk =
 -- the cycle that is shown is an unvoted cycle
 abbrev pub TheWitnessIsACycle : Type 0
 TheWitnessIsACycle = (g : Graph) (nodes : List Node) → IsWitnessCycle g nodes → IsUnvotedCycle g nodes
+
+-- a graph has one such cycle, and one such walk of each number of nodes
+pub record WitnessesAreUnique (g : Graph) : Type 0 where
+  pub cycle : (one other : List Node) → IsWitnessCycle g one → IsWitnessCycle g other → one ≡ other
+  pub walk : (one other : List Node) → IsWitnessWalk g one → IsWitnessWalk g other → length one ≡ length other → one ≡ other
+
+abbrev pub EachWitnessIsUnique : Type 0
+EachWitnessIsUnique = (g : Graph) → WitnessesAreUnique g

@@ -1,10 +1,10 @@
 //! The cycle that is shown: back from the least core node to a cycle, and then once round it.
 //! A core node ends an unvoted walk of more nodes than there are, so that a core node steps to it.
 //! This project's own.
-ghost use Rattle.std.specs.Prelude.{IsTrue, ◌↔◌, ◌≡◌, IfOk};
+ghost use Rattle.std.specs.Prelude.{IsTrue, ◌≡◌, IfOk};
 ghost use Rattle.recovery_analysis.specs.Walk.{node_count};
 ghost use Rattle.recovery_analysis.specs.Graphs.{graph_of, IsOneSize};
-ghost use Rattle.recovery_analysis.specs.Levels.{number, IsFull, start_node, is_core, back_node, path, has_core, IsNode};
+ghost use Rattle.recovery_analysis.specs.Levels.{IsFull, start_node, is_core, back_node, path, has_core};
 ghost use Rattle.recovery_analysis.specs.Witness.{IsWitnessCycle};
 ghost use Rattle.recovery_analysis.specs.Around.{IsTurn};
 
@@ -15,26 +15,6 @@ use rcp_base::{List, Memory};
 use std::alloc::Global;
 use task_graph::DepRows;
 use vote_pattern::Pattern;
-
-fn is_same(a: Node, b: Node) -> bool
-    ensures { IsTrue result ↔ (a ≡ b) }
-{
-    a.slot == b.slot && a.cell == b.cell
-}
-
-// Where the node stands in the order of nodes.
-fn number_of(rows: &DepRows, pattern: &Pattern, node: Node) -> u32
-    requires { IsNode (graph_of rows.now pattern.now) node }
-    ensures { result ≡ number (graph_of rows.now pattern.now) node }
-{
-    let slots = rows.slots();
-    let cells = rows.cells();
-    if node.slot < slots {
-        node.slot * cells + node.cell
-    } else {
-        0
-    }
-}
 
 // One step back in the core.
 fn core_back(rows: &DepRows, pattern: &Pattern, words: &[u64], node: Node) -> Node
@@ -74,7 +54,7 @@ fn turn(rows: &DepRows, pattern: &Pattern, words: &[u64], reached: Node) -> Node
     let mut least = reached;
     for _i in 0..levels::node_count(rows) {
         node = core_back(rows, pattern, words, node);
-        if number_of(rows, pattern, node) < number_of(rows, pattern, least) {
+        if node < least {
             least = node;
         }
     }
@@ -100,7 +80,7 @@ fn gather(
     for _i in 0..levels::node_count(rows) {
         node = core_back(rows, pattern, words, node);
         nodes.push(node)?;
-        if is_same(node, least) {
+        if node == least {
             nodes.reverse();
             let list = list_of(alloc, nodes.as_slice())?;
             return Ok(list);

@@ -1,6 +1,6 @@
 //! What follows from the definitions of unvoted walks, for all graphs.
 //! This project's own.
-ghost use Rattle.recovery_analysis.specs.Laws.{CycleIffLongWalk, TheWitnessIsACycle};
+ghost use Rattle.recovery_analysis.specs.Laws.{CycleIffLongWalk, EachWitnessIsUnique, TheWitnessIsACycle};
 
 /// There is an unvoted cycle exactly where there is an unvoted walk of more nodes than there are.
 pub fn cycle_iff_long_walk()
@@ -10,4 +10,9 @@ pub fn cycle_iff_long_walk()
 /// The cycle that is shown is an unvoted cycle.
 pub fn the_witness_is_a_cycle()
     ensures { TheWitnessIsACycle }
+{}
+
+/// There is one cycle that is shown, and one walk of each number of nodes.
+pub fn each_witness_is_unique()
+    ensures { EachWitnessIsUnique }
 {}

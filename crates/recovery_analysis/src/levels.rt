@@ -1,7 +1,7 @@
 //! Which nodes end an unvoted walk of so many nodes: levels, each one word for each slot.
 //! A walk of one node more ends where a node of the level before steps to.
 //! This project's own.
-ghost use Rattle.std.specs.Prelude.{vec_len, if◌then◌else◌, ◌==◌, ◌≡◌, ◌<◌, ◌≤◌, ◌*◌, ◌+◌, ◌-◌, ◌/◌, ◌%◌, ℕ, false, length, OnOk, MatchOption};
+ghost use Rattle.std.specs.Prelude.{vec_len, if◌then◌else◌, ◌==◌, ◌≡◌, ◌<◌, ◌≤◌, ◌*◌, ◌+◌, ◌-◌, length, OnOk};
 ghost use Rattle.recovery_analysis.specs.Graphs.{graph_of, IsOneSize};
 ghost use Rattle.recovery_analysis.specs.Levels.{level, AnswersBefore, AreWords, IsWordOf, IsNode};
 

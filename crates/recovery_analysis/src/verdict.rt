@@ -1,6 +1,6 @@
 //! Whether a vote pattern recovers: how soon, or a cycle on which it does not.
 //! After NASA TM-102716; the code is this project's own.
-ghost use Rattle.std.specs.Prelude.{IsTrue, ◌≡◌, IfOk};
+ghost use Rattle.std.specs.Prelude.{◌≡◌, IfOk};
 ghost use Rattle.recovery_analysis.specs.Graphs.{graph_of};
 ghost use Rattle.recovery_analysis.specs.Verdict.{IsVerdict, IsVerdictOfPlans};
 

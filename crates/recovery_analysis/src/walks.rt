@@ -1,6 +1,6 @@
 //! The walk that is shown: from the least node of a level back, each time by the least node.
 //! This project's own.
-ghost use Rattle.std.specs.Prelude.{IsTrue, ◌≡◌, ◌<◌, ◌≤◌, ◌*◌, ◌+◌, ◌-◌, false, length, IfOk, MatchOption};
+ghost use Rattle.std.specs.Prelude.{IsTrue, ◌≡◌, ◌<◌, ◌≤◌, ◌*◌, ◌+◌, ◌-◌, length, IfOk};
 ghost use Rattle.recovery_analysis.specs.Graphs.{graph_of, IsOneSize};
 ghost use Rattle.recovery_analysis.specs.Levels.{AnswersLeast, AreWords, has_level_node, has_node_before, node_before, walk_node, IsNode};
 ghost use Rattle.recovery_analysis.specs.Witness.{IsWitnessWalkOf};

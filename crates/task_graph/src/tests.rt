@@ -151,6 +151,14 @@ fn needs(rows: &DepRows, slot: u32, cell: u32, from: u32) -> bool {
         && rows.needs(slot, cell, from)
 }
 
+fn word(rows: &DepRows, slot: u32, cell: u32) -> Option<u64> {
+    if slot < rows.slots() && cell < rows.cells() {
+        Some(rows.word(slot, cell))
+    } else {
+        None
+    }
+}
+
 #[test]
 fn the_motor_needs_its_cells(rt: HostRuntime) -> Result<(), Fail> {
     let parts = motor(rt.alloc())?;
@@ -165,5 +173,6 @@ fn the_motor_needs_its_cells(rt: HostRuntime) -> Result<(), Fail> {
         ];
         assert_eq!(rt; found, *expected, "slot {slot}, cell {cell}");
     }
+    assert_eq!(rt; word(&rows, 1, 0), Some(0b101));
     Ok(())
 }

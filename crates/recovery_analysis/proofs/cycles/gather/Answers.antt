@@ -1,8 +1,8 @@
 use Rattle.std.proofs.Common.{◌≡◌, ◌+◌, ℕ, suc, reverse, ap, sym, ◌∙◌, subst, arith, refl}
-use Rattle.std.proofs.lemmas.Bool.{both_ways}
 use Rattle.recovery_analysis.specs.Graphs.{graph_of}
 use Rattle.recovery_analysis.specs.Levels.{back_node, is_core, back_times}
 use Rattle.recovery_analysis.specs.Witness.{IsWitnessCycle}
+use Rattle.recovery_analysis.proofs.OrderLemmas.{same_node, other_node}
 use Rattle.recovery_analysis.proofs.GatherLemmas.{NotAgain, comes, gathered_nodes, gathered_more, not_again_more, gathered, around_core}
 use Rattle.recovery_analysis.proofs.cycles.gather.Goals as goal
 
@@ -11,14 +11,14 @@ core_back-node-requires-clause-node c =
     let g = graph_of c.args.rows.now c.args.pattern.now in
     ap (is_core g) c.loop-i.invariant.node ∙ around_core g c.args.least c.requires.core c.requires.least c.loop-i._i
 
-pub returns-then-is_same : goal.returns-then-is_same
-returns-then-is_same c =
+pub returns-then-eq : goal.returns-then-eq
+returns-then-eq c =
     let g = graph_of c.args.rows.now c.args.pattern.now in
     let t : ℕ = c.loop-i._i in
     let next : c.core_back-node.result ≡ back_times g c.args.least (suc t) = c.core_back-node.ensures.value ∙ ap (back_node g) c.loop-i.invariant.node in
     let nodes : c.push.new.self.items ≡ gathered_nodes g c.args.least (suc t) = gathered_more g c.args.least t c.loop-i.nodes.items c.push.new.self.items c.core_back-node.result c.loop-i.invariant.nodes next c.in_ok-push.ensures.items in
     subst (IsWitnessCycle g) (sym (c.in_ok-list.ensures ∙ c.as_slice.ensures.value ∙ c.reverse.ensures.items ∙ ap reverse nodes))
-    (gathered g c.args.least t c.requires.core c.requires.least c.loop-i.invariant.fresh (sym next ∙ c.is_same.ensures.0 c.if-is_same.true))
+    (gathered g c.args.least t c.requires.core c.requires.least c.loop-i.invariant.fresh (sym next ∙ same_node c.core_back-node.result c.args.least (sym c.if-eq.ensures)))
 
 pub loop-i-preserved : goal.loop-i-preserved
 loop-i-preserved c =
@@ -29,7 +29,7 @@ loop-i-preserved c =
     record {
       node = next ∙ ap (back_times g c.args.least) one;
       nodes = gathered_more g c.args.least t c.loop-i.nodes.items c.push.new.self.items c.core_back-node.result c.loop-i.invariant.nodes next c.in_ok-push.ensures.items ∙ ap (gathered_nodes g c.args.least) one;
-      fresh = not_again_more g c.args.least t c.loop-i.invariant.fresh (λ e. both_ways c.is_same.result c.if-is_same.false (c.is_same.ensures.1 (next ∙ e)));
+      fresh = not_again_more g c.args.least t c.loop-i.invariant.fresh (λ e. other_node c.core_back-node.result c.args.least (sym c.if-eq.ensures) (next ∙ e));
     }
 
 pub unreachable-requires : goal.unreachable-requires

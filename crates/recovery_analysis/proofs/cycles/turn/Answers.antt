@@ -1,12 +1,13 @@
-use Rattle.std.proofs.Common.{◌≡◌, ◌+◌, ℕ, suc, inl, inr, ap, ◌∙◌, subst, arith}
+use Rattle.std.proofs.Common.{sym, ◌≡◌, ◌+◌, ℕ, suc, inl, inr, ap, ◌∙◌, subst, arith}
 use Rattle.recovery_analysis.specs.Graphs.{graph_of}
 use Rattle.recovery_analysis.specs.Walk.{node_count}
 use Rattle.recovery_analysis.specs.Levels.{path, back_node, is_core}
 use Rattle.recovery_analysis.specs.Around.{period_of, TurnSoFar}
+use Rattle.recovery_analysis.proofs.OrderLemmas.{before, not_before}
 use Rattle.recovery_analysis.proofs.LevelLemmas.{level_unvoted}
 use Rattle.recovery_analysis.proofs.CoreLemmas.{path_at, path_core}
 use Rattle.recovery_analysis.proofs.GatherLemmas.{turn_begin, turn_more, turn_end}
-use Rattle.recovery_analysis.proofs.cycles.turn.Goals.{then-number_of, else-number_of}
+use Rattle.recovery_analysis.proofs.cycles.turn.Goals.{then-lt, else-lt}
 use Rattle.recovery_analysis.proofs.cycles.turn.Goals as goal
 
 pub core_back-node-requires-clause-node : goal.core_back-node-requires-clause-node
@@ -14,30 +15,20 @@ core_back-node-requires-clause-node c =
     let g = graph_of c.args.rows.now c.args.pattern.now in
     ap (is_core g) c.loop-i.invariant.node ∙ path_core g c.requires.core (c.loop-i._i + node_count g)
 
-pub number_of-requires : goal.number_of-requires
-number_of-requires c =
-    let g = graph_of c.args.rows.now c.args.pattern.now in
-    let u = level_unvoted g (node_count g) c.core_back-node.result c.core_back-node.ensures.core in
-    record { slot_in = u.slot_in; cell_in = u.cell_in }
-
-pub number_of-requires-in-loop-i : goal.number_of-requires-in-loop-i
-number_of-requires-in-loop-i c =
-    let g = graph_of c.args.rows.now c.args.pattern.now in
-    let t = c.loop-i.invariant.turn in
-    let u = level_unvoted g (node_count g) c.loop-i.least (ap (is_core g) t.is ∙ path_core g c.requires.core (t.s + node_count g)) in
-    record { slot_in = u.slot_in; cell_in = u.cell_in }
-
 pub loop-i-preserved : goal.loop-i-preserved
 loop-i-preserved c =
     let g = graph_of c.args.rows.now c.args.pattern.now in
+    let t = c.loop-i.invariant.turn in
+    let u = level_unvoted g (node_count g) c.core_back-node.result c.core_back-node.ensures.core in
+    let v = level_unvoted g (node_count g) c.loop-i.least (ap (is_core g) t.is ∙ path_core g c.requires.core (t.s + node_count g)) in
     let e : c.core_back-node.result ≡ path g (c.loop-i._i + 1 + node_count g) =
     c.core_back-node.ensures.value ∙ ap (back_node g) c.loop-i.invariant.node ∙ path_at g (suc (c.loop-i._i + node_count g)) (c.loop-i._i + 1 + node_count g) (omega arith) in
     record {
       node = e;
-      turn = turn_more g c.loop-i._i c.loop-i.least c.core_back-node.result c.if-number_of.least c.requires.core c.loop-i.invariant.turn e
-          (elim c.if-number_of.branch [
-            | then-number_of w ↦ inl (omega arith, w.least-is)
-            | else-number_of w ↦ inr (omega arith, w.least-is)
+      turn = turn_more g c.loop-i._i c.loop-i.least c.core_back-node.result c.if-lt.least c.requires.core c.loop-i.invariant.turn e
+          (elim c.if-lt.branch [
+            | then-lt w ↦ inl (before g c.core_back-node.result c.loop-i.least u.cell_in v.cell_in (sym w.if-lt.ensures), w.least-is)
+            | else-lt w ↦ inr (not_before g c.core_back-node.result c.loop-i.least u.cell_in v.cell_in (sym w.if-lt.ensures), w.least-is)
           ]);
     }
 
