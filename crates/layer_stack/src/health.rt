@@ -3,6 +3,7 @@
 ghost use Rattle.std.specs.Prelude.{◌≡◌, ◌<◌, ◌≤ℤ◌, pos, length, is_none};
 ghost use Rattle.rcp_model.specs.declared.plan.PlanParts.{PlanParts};
 ghost use Rattle.rcp_model.specs.FrameRows.{AreRowsOf, cell_row, act_row, lie_row};
+ghost use Rattle.rcp_base.specs.Search.{all_below};
 ghost use Rattle.rcp_model.specs.Health as model;
 
 use crate::frame_in::FrameIn;
@@ -35,7 +36,7 @@ pub(crate) fn is_healthy(parts: &PlanParts, input: &FrameIn, replica: u32) -> bo
 fn is_faithful_to_all(parts: &PlanParts, input: &FrameIn, sender: u32) -> bool
     requires rows { AreRowsOf parts.now input.now }
     requires sender { sender < parts.now.replicas }
-    ensures { result ≡ model.all_below parts.now.replicas
+    ensures { result ≡ all_below parts.now.replicas
         (model.is_faithful parts.now input.now sender) }
 {
     (0..parts.replicas).all(|receiver| is_faithful(input, sender, receiver))
@@ -45,7 +46,7 @@ fn is_faithful_to_all(parts: &PlanParts, input: &FrameIn, sender: u32) -> bool
 fn is_timely_to_all(parts: &PlanParts, input: &FrameIn, sender: u32) -> bool
     requires rows { AreRowsOf parts.now input.now }
     requires sender { sender < parts.now.replicas }
-    ensures { result ≡ model.all_below parts.now.replicas
+    ensures { result ≡ all_below parts.now.replicas
         (model.is_timely parts.now input.now sender) }
 {
     (0..parts.replicas).all(|receiver| is_timely(&parts.timing, input, sender, receiver))
@@ -67,7 +68,7 @@ fn is_untouched(input: &FrameIn, replica: u32) -> bool
 // Whether no row overwrites a cell of the replica.
 fn has_no_cell(input: &FrameIn, replica: u32) -> bool
     requires { replica < input.now.replicas }
-    ensures { result ≡ model.all_below input.now.cells
+    ensures { result ≡ all_below input.now.cells
         (λ cell. is_none (cell_row input.now replica cell)) }
 {
     (0..input.cells()).all(|cell| input.cell(replica, cell).is_none())
@@ -76,7 +77,7 @@ fn has_no_cell(input: &FrameIn, replica: u32) -> bool
 // Whether no row overwrites a command of the replica.
 fn has_no_act(input: &FrameIn, replica: u32) -> bool
     requires { replica < input.now.replicas }
-    ensures { result ≡ model.all_below input.now.actuators
+    ensures { result ≡ all_below input.now.actuators
         (λ actuator. is_none (act_row input.now replica actuator)) }
 {
     (0..input.actuators()).all(|actuator| input.act(replica, actuator).is_none())
@@ -112,7 +113,7 @@ fn is_faithful(input: &FrameIn, sender: u32, receiver: u32) -> bool
 fn has_no_lie(input: &FrameIn, sender: u32, receiver: u32) -> bool
     requires sender { sender < input.now.replicas }
     requires receiver { receiver < input.now.replicas }
-    ensures { result ≡ model.all_below input.now.cells
+    ensures { result ≡ all_below input.now.cells
         (λ cell. is_none (lie_row input.now sender receiver cell)) }
 {
     (0..input.cells()).all(|cell| input.lie(sender, receiver, cell).is_none())

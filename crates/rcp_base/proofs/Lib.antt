@@ -1,3 +1,5 @@
 mod NamePadding
 pub mod WritingLaws
 pub mod TableLaws
+pub mod SearchLaws
+pub mod BitLaws

@@ -10,3 +10,5 @@ pub mod MemFolder
 pub mod MemSink
 pub mod Majority
 pub mod Message
+pub mod Search
+pub mod Bits

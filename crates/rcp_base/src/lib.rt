@@ -1,8 +1,10 @@
-//! What every crate of the platform stands on: saturating arithmetic, names, lists, limits, and the traits of the outside.
+//! What every crate of the platform stands on: saturating arithmetic, words of bits, names, lists, limits, and the traits of
+//! the outside.
 //! This project's own.
 #![tactic(auto)]
 
 mod arithmetic;
+pub mod bits;
 mod calls;
 mod folder;
 mod list;

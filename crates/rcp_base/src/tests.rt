@@ -5,7 +5,7 @@ ghost use Rattle.rcp_base.specs.MemFolder.{faults_of};
 
 use crate::{
     Folder, List, MemFolder, MemSink, Memory, Name, ReadError, Sink, SureFolder, SureSink,
-    WriteError, abs, add, div, mul, neg, rem, sub,
+    WriteError, abs, add, bits, div, mul, neg, rem, sub,
 };
 use std::alloc::Global;
 use std::test::Fail;
@@ -148,6 +148,17 @@ fn a_missing_name_is_no_fault(rt: HostRuntime) -> Result<(), Fail> {
     let result = folder.read(rt.alloc(), "a", 0, &mut Vec::new(rt.alloc()));
     assert_eq!(rt; result, Ok(()));
     Ok(())
+}
+
+#[test]
+fn a_word_is_a_set_of_numbers(rt: HostRuntime) {
+    let word = bits::with_bit(bits::with_bit(0, 63), 2);
+    assert_eq!(rt; word, 0x8000_0000_0000_0004);
+    assert_eq!(rt; bits::has_bit(word, 63), true);
+    assert_eq!(rt; bits::has_bit(word, 3), false);
+    assert_eq!(rt; bits::first_bit(word), Some(2));
+    assert_eq!(rt; bits::without_bit(word, 2), 0x8000_0000_0000_0000);
+    assert_eq!(rt; bits::first_bit(0), None);
 }
 
 #[test]

@@ -11,3 +11,4 @@ mod CounterExamples
 mod IdealExamples
 mod ClockExamples
 mod RowExamples
+mod GraphExamples

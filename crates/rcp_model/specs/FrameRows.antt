@@ -61,7 +61,7 @@ lie_slot_row rows sender receiver = entry_at rows.replicas rows.lie_slots sender
 unfoldable pub is_dropped : FrameRows → ℕ → ℕ → Bool
 is_dropped rows sender receiver = entry_at rows.replicas rows.drops sender receiver false
 
--- how far the replica's clock is ahead, in ticks
+-- how late the replica's clock is, in ticks
 unfoldable pub skew_of : FrameRows → ℕ → ℤ
 skew_of rows replica = slice_index_or rows.skews replica (pos 0)
 

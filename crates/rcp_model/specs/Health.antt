@@ -1,13 +1,10 @@
 -- Which replicas are healthy, which are working, and the guard. The frames so far are listed with the newest first.
 -- After NASA TM-102716; what counts as healthy is this project's own.
 use Rattle.std.specs.Prelude.{ℕ, zero, suc, ◌*◌, ◌<◌, Bool, true, not, ◌&&◌, pos, neg_ℤ, int_le, List, [], ◌∷◌, length, count_by, is_none, ⊤}
-use Rattle.std.specs.List.{list_all, range_with_len}
+use Rattle.std.specs.List.{range_with_len}
+use Rattle.rcp_base.specs.Search.{all_below}
 use Rattle.rcp_model.specs.declared.plan.PlanParts.{PlanParts}
 use Rattle.rcp_model.specs.FrameRows.{FrameRows, is_down, slot_row, cell_row, act_row, lie_row, lie_slot_row, is_dropped, skew_of, rate_of, delay_of}
-
--- a test holds of each number below n
-abbrev pub all_below : ℕ → (ℕ → Bool) → Bool
-all_below n test = list_all test (range_with_len 0 n)
 
 -- no row takes the replica down, or overwrites its slot, a cell or a command
 unfoldable pub is_untouched : PlanParts → FrameRows → ℕ → Bool

@@ -10,4 +10,13 @@ pub mod FrameRows
 pub mod Health
 pub mod Messages
 pub mod System
+pub mod Dependence
+pub mod Node
+pub mod Walk
+pub mod Recovery
+pub mod Witness
+pub mod Levels
+pub mod Shown
+pub mod Thinning
+pub mod PlanGraph
 pub mod Laws

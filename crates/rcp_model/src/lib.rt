@@ -5,10 +5,12 @@
 mod checked_plan;
 mod expr;
 pub mod laws;
+mod node;
 mod plan;
 mod task;
 
 pub use checked_plan::Plan;
 pub use expr::{Expr, Op};
+pub use node::Node;
 pub use plan::{ActuatorRow, PlanParts, SlotRow, Timing, Variable};
 pub use task::{LetRow, SetRow, Task};

@@ -2,13 +2,16 @@
 use Rattle.std.proofs.Common.{◌≡◌, ℕ, ◌+◌, ◌-◌, ◌<◌, ◌≤◌, zero, suc, Bool, true, ◌&&◌, List, length, inl, inr, refl, ◌∙◌, ap, subst, arith}
 use Rattle.std.proofs.lemmas.Bool.{cases_lt, and_parts, and_from, both_ways}
 use Rattle.std.proofs.lemmas.Nat.{div-add-mod'}
-use Rattle.recovery_analysis.specs.declared.node.Node.{Node}
-use Rattle.recovery_analysis.specs.Walk.{Graph, node_count, IsUnvoted, StepsTo, at, EndsWalk, IsUnvotedCycle}
-use Rattle.recovery_analysis.specs.Levels.{number, node_of, steps_to, level, goes, is_core, starts, start_node, back_node, path, has_core}
-use Rattle.recovery_analysis.specs.Node.{IsLeast}
-use Rattle.recovery_analysis.specs.Witness.{IsCore, IsBack, IsReached}
-use Rattle.recovery_analysis.proofs.SearchLemmas.{any_of, first_is, pigeonhole}
-use Rattle.recovery_analysis.specs.Search.{some_below, first_below, IsFirst}
+use Rattle.rcp_model.specs.declared.node.Node.{Node}
+use Rattle.rcp_model.specs.Walk.{Graph, node_count, IsUnvoted, StepsTo, at, EndsWalk, IsUnvotedCycle}
+use Rattle.rcp_model.specs.Levels.{number, node_of, steps_to, level, goes, has_cycle}
+use Rattle.recovery_analysis.specs.Levels.{is_core, starts}
+use Rattle.rcp_model.specs.Shown.{start_node, back_node, path}
+use Rattle.rcp_model.specs.Node.{IsLeast}
+use Rattle.rcp_model.specs.Witness.{IsCore, IsBack, IsReached}
+use Rattle.rcp_base.proofs.SearchLaws.{any_of, first_is}
+use Rattle.recovery_analysis.proofs.SearchLemmas.{pigeonhole}
+use Rattle.rcp_base.specs.Search.{any_below, first_below, IsFirst}
 use Rattle.recovery_analysis.proofs.OrderLemmas.{up_to_from}
 use Rattle.recovery_analysis.proofs.LevelLemmas.{node_of-number, number-lt, number-injective, steps_to_parts, steps_to_from, level_zero, level_unvoted, level_step, level_down, level_along, level_of_ends, ends_of_level, LevelBack}
 
@@ -83,17 +86,17 @@ least_of_first g p P to from u v r =
       ];
     }
 
-pub has_core_from : (g : Graph) (n : Node) → is_core g n ≡ true → has_core g ≡ true
-has_core_from g n h =
+pub has_cycle_from : (g : Graph) (n : Node) → is_core g n ≡ true → has_cycle g ≡ true
+has_cycle_from g n h =
     let u = level_unvoted g (node_count g) n h in
     any_of (node_count g) (starts g) (number g n) (number-lt g n u) (ap (is_core g) (node_of-number g n u.cell_in) ∙ h)
 
-pub start_least : (g : Graph) → has_core g ≡ true → IsLeast (IsCore g) (start_node g)
+pub start_least : (g : Graph) → has_cycle g ≡ true → IsLeast (IsCore g) (start_node g)
 start_least g h =
     least_of_first g (is_core g) (IsCore g) (core_of_level g) (level_of_core g) (λ n c. level_unvoted g (node_count g) n (level_of_core g n c))
     (first_below (node_count g) (starts g)) (first_is (node_count g) (starts g) h)
 
-pub core_some : (g : Graph) (n : Node) → is_core g n ≡ true → some_below (node_count g) (goes g (node_count g) n) ≡ true
+pub core_some : (g : Graph) (n : Node) → is_core g n ≡ true → any_below (node_count g) (goes g (node_count g) n) ≡ true
 core_some g n h =
     let b = core_back g n h in
     let u = level_unvoted g (node_count g) b.m b.level in
@@ -119,18 +122,18 @@ back_is g n h =
 pub back_core : (g : Graph) (n : Node) → is_core g n ≡ true → is_core g (back_node g n) ≡ true
 back_core g n h = level_of_core g _ (back_is g n h).has.0
 
-pub path_core : (g : Graph) → has_core g ≡ true → (k : ℕ) → is_core g (path g k) ≡ true
+pub path_core : (g : Graph) → has_cycle g ≡ true → (k : ℕ) → is_core g (path g k) ≡ true
 path_core g h zero = level_of_core g _ (start_least g h).has
 path_core g h (suc k) = level_of_core g _ (back_is g (path g k) (path_core g h k)).has.0
 
-pub path_back : (g : Graph) → has_core g ≡ true → (k : ℕ) → IsBack g (path g k) (path g (suc k))
+pub path_back : (g : Graph) → has_cycle g ≡ true → (k : ℕ) → IsBack g (path g k) (path g (suc k))
 path_back g h k = back_is g (path g k) (path_core g h k)
 
-pub path_reached : (g : Graph) → has_core g ≡ true → (k : ℕ) → IsReached g k (path g k)
+pub path_reached : (g : Graph) → has_cycle g ≡ true → (k : ℕ) → IsReached g k (path g k)
 path_reached g h zero = start_least g h
 path_reached g h (suc k) = (path g k, path_reached g h k, path_back g h k)
 
-pub path_unvoted : (g : Graph) → has_core g ≡ true → (k : ℕ) → IsUnvoted g (path g k)
+pub path_unvoted : (g : Graph) → has_cycle g ≡ true → (k : ℕ) → IsUnvoted g (path g k)
 path_unvoted g h k = level_unvoted g (node_count g) (path g k) (path_core g h k)
 
 pub path_at : (g : Graph) (a b : ℕ) → a ≡ b → path g a ≡ path g b

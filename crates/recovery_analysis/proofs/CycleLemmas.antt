@@ -2,22 +2,26 @@
 use Rattle.std.proofs.Common.{◌≡◌, ◌≢◌, ◌↔◌, ℕ, ◌+◌, ◌-◌, ◌<◌, ◌≤◌, suc, true, List, length, inl, inr, refl, sym, ◌∙◌, ap, subst, arith}
 use Rattle.std.proofs.lemmas.Bool.{cases_lt, cases_eq, eqb-true, eqb-false, eq-eqb}
 use Rattle.std.proofs.lemmas.List.FromFn.{length-map-range_with_len, get_or-map-range_with_len}
-use Rattle.recovery_analysis.specs.declared.node.Node.{Node}
-use Rattle.recovery_analysis.specs.Walk.{Graph, node_count, IsUnvoted, no_node, at, EndsWalk, IsUnvotedCycle}
-use Rattle.recovery_analysis.specs.Levels.{number, path, has_core}
-use Rattle.recovery_analysis.specs.Node.{IsUpTo}
-use Rattle.recovery_analysis.specs.Witness.{IsCore, IsBack, IsReached, IsWitnessCycle}
-use Rattle.recovery_analysis.specs.Search.{first_below}
-use Rattle.recovery_analysis.specs.Around.{Period, comes_again, period_of, Turn, around, cycle_nodes}
-use Rattle.recovery_analysis.proofs.SearchLemmas.{any_of, first_is, lowest, pigeonhole}
+use Rattle.rcp_model.specs.declared.node.Node.{Node}
+use Rattle.rcp_model.specs.Walk.{Graph, node_count, IsUnvoted, no_node, at, EndsWalk, IsUnvotedCycle}
+use Rattle.rcp_model.specs.Levels.{number, has_cycle}
+use Rattle.rcp_model.specs.Shown.{path, turn_of, witness_cycle, period_of, cycle_nodes}
+use Rattle.rcp_model.specs.Node.{IsUpTo}
+use Rattle.rcp_model.specs.Witness.{IsCore, IsBack, IsReached, IsWitnessCycle}
+use Rattle.rcp_base.specs.Search.{first_below}
+use Rattle.recovery_analysis.specs.Around.{Period, Turn}
+use Rattle.rcp_model.specs.Shown.{comes_again, period_of, around, cycle_nodes}
+use Rattle.rcp_base.proofs.SearchLaws.{any_of, first_is}
+use Rattle.rcp_base.proofs.SearchLaws.{lowest_is}
+use Rattle.recovery_analysis.proofs.SearchLemmas.{pigeonhole}
 use Rattle.recovery_analysis.proofs.OrderLemmas.{up_to_from, up_to_same}
 use Rattle.recovery_analysis.proofs.LevelLemmas.{number-lt, number-injective, level_unvoted}
-use Rattle.recovery_analysis.proofs.CoreLemmas.{level_of_core, core_of_cycle, has_core_from, path_at, path_same, path_unvoted, path_back, path_reached}
+use Rattle.recovery_analysis.proofs.CoreLemmas.{level_of_core, core_of_cycle, has_cycle_from, path_at, path_same, path_unvoted, path_back, path_reached}
 
-pub same_of_number : (g : Graph) → has_core g ≡ true → (i j : ℕ) → number g (path g i) ≡ number g (path g j) → path g i ≡ path g j
+pub same_of_number : (g : Graph) → has_cycle g ≡ true → (i j : ℕ) → number g (path g i) ≡ number g (path g j) → path g i ≡ path g j
 same_of_number g h i j e = number-injective g (path g i) (path g j) (path_unvoted g h i).cell_in (path_unvoted g h j).cell_in e
 
-pub is_period : (g : Graph) → has_core g ≡ true → Period g (period_of g)
+pub is_period : (g : Graph) → has_cycle g ≡ true → Period g (period_of g)
 is_period g h =
     let c = pigeonhole (node_count g) (λ i. number g (path g i)) (λ i l. number-lt g (path g i) (path_unvoted g h i)) in
     let lo : c.i < c.j = c.apart in
@@ -68,7 +72,7 @@ around_least g p s r turn t h =
           let l = turn.least u (omega arith) in omega arith
     ]
 
-pub cycle_is_witness : (g : Graph) (p s : ℕ) → has_core g ≡ true → Period g p → Turn g p s → IsWitnessCycle g (cycle_nodes g p s)
+pub cycle_is_witness : (g : Graph) (p s : ℕ) → has_cycle g ≡ true → Period g p → Turn g p s → IsWitnessCycle g (cycle_nodes g p s)
 cycle_is_witness g p s h r turn =
     let n = node_count g in
     let below : s < p = turn.below in
@@ -109,10 +113,15 @@ cycle_is_witness g p s h r turn =
           ];
     }
 
-pub turn_of : (g : Graph) (p : ℕ) → 0 < p → (s : ℕ) × Turn g p s
-turn_of g p h =
-    let l = lowest p (λ t. number g (path g (t + node_count g))) h in
-    (l.at, record { below = l.below; least = l.least })
+-- the least node of the cycle is where it is looked for
+turn_is : (g : Graph) → has_cycle g ≡ true → Turn g (period_of g) (turn_of g)
+turn_is g h =
+    let l = lowest_is (period_of g) (λ t. number g (path g (t + node_count g))) (is_period g h).some in
+    record { below = l.below; least = l.least }
+
+-- the cycle that is shown is the one of the definition
+pub shown_cycle : (g : Graph) → has_cycle g ≡ true → IsWitnessCycle g (witness_cycle g)
+shown_cycle g h = cycle_is_witness g (period_of g) (turn_of g) h (is_period g h) (turn_is g h)
 
 -- the cycle that is shown is an unvoted cycle
 pub witness_is_cycle : (g : Graph) (nodes : List Node) → IsWitnessCycle g nodes → IsUnvotedCycle g nodes
@@ -131,11 +140,7 @@ witness_is_cycle g nodes c =
     }
 
 pub cycle_of_core : (g : Graph) (n : Node) → IsCore g n → (nodes : List Node) × IsUnvotedCycle g nodes
-cycle_of_core g n c =
-    let h = has_core_from g n (level_of_core g n c) in
-    let r = is_period g h in
-    let t = turn_of g (period_of g) r.some in
-    (cycle_nodes g (period_of g) t.0, witness_is_cycle g _ (cycle_is_witness g (period_of g) t.0 h r t.1))
+cycle_of_core g n c = (witness_cycle g, witness_is_cycle g (witness_cycle g) (shown_cycle g (has_cycle_from g n (level_of_core g n c))))
 
 pub cycle_iff_walk : (g : Graph) → ((nodes : List Node) × IsUnvotedCycle g nodes) ↔ ((n : Node) × EndsWalk g (node_count g + 1) n)
 cycle_iff_walk g = (λ c. (at c.0 0, core_of_cycle g c.0 c.1), λ c. cycle_of_core g c.0 c.1)

@@ -4,15 +4,18 @@ use Rattle.std.proofs.lemmas.Bool.{cases_lt, cases_eq}
 use Rattle.std.proofs.lemmas.List.{get_or-reverse, length-reverse, ext_get_or}
 use Rattle.std.proofs.lemmas.List.FromFn.{map-range_with_len_more, length-map-range_with_len, get_or-map-range_with_len}
 use Rattle.std.specs.List.{range_with_len}
-use Rattle.recovery_analysis.specs.declared.node.Node.{Node}
-use Rattle.recovery_analysis.specs.Walk.{Graph, node_count, no_node}
-use Rattle.recovery_analysis.specs.Levels.{number, is_core, path, has_core, back_node, back_times}
-use Rattle.recovery_analysis.specs.Witness.{IsWitnessCycle}
-use Rattle.recovery_analysis.specs.Around.{Period, period_of, around, cycle_nodes, TurnSoFar, IsTurn}
+use Rattle.rcp_model.specs.declared.node.Node.{Node}
+use Rattle.rcp_model.specs.Walk.{Graph, node_count, no_node}
+use Rattle.rcp_model.specs.Levels.{number, has_cycle}
+use Rattle.recovery_analysis.specs.Levels.{is_core, back_times}
+use Rattle.rcp_model.specs.Shown.{path, back_node}
+use Rattle.rcp_model.specs.Witness.{IsWitnessCycle}
+use Rattle.recovery_analysis.specs.Around.{Period, TurnSoFar, IsTurn}
+use Rattle.rcp_model.specs.Shown.{period_of, around, cycle_nodes}
 use Rattle.recovery_analysis.proofs.CoreLemmas.{path_at, path_same, path_core}
 use Rattle.recovery_analysis.proofs.CycleLemmas.{is_period, around_returns, around_distinct, cycle_is_witness}
 
-pub turn_begin : (g : Graph) (least : Node) → has_core g ≡ true → least ≡ path g (node_count g) → TurnSoFar g (period_of g) 0 least
+pub turn_begin : (g : Graph) (least : Node) → has_cycle g ≡ true → least ≡ path g (node_count g) → TurnSoFar g (period_of g) 0 least
 turn_begin g least h e = record {
   s = 0;
   below = omega arith;
@@ -51,11 +54,11 @@ turn_taken g p t least node d r e lt = record {
   ];
 }
 
-pub turn_more : (g : Graph) (t : ℕ) (least node next : Node) → has_core g ≡ true → TurnSoFar g (period_of g) t least → node ≡ path g (t + 1 + node_count g) → ((number g node < number g least) × (next ≡ node)) ⊎ ((number g least ≤ number g node) × (next ≡ least)) → TurnSoFar g (period_of g) (t + 1) next
+pub turn_more : (g : Graph) (t : ℕ) (least node next : Node) → has_cycle g ≡ true → TurnSoFar g (period_of g) t least → node ≡ path g (t + 1 + node_count g) → ((number g node < number g least) × (next ≡ node)) ⊎ ((number g least ≤ number g node) × (next ≡ least)) → TurnSoFar g (period_of g) (t + 1) next
 turn_more g t least node next h r e (inl a) = subst (TurnSoFar g (period_of g) (t + 1)) (sym a.1) (turn_taken g (period_of g) t least node (is_period g h) r e a.0)
 turn_more g t least node next h r e (inr a) = subst (TurnSoFar g (period_of g) (t + 1)) (sym a.1) (turn_kept g (period_of g) t least node r e a.0)
 
-pub turn_end : (g : Graph) (least : Node) → has_core g ≡ true → TurnSoFar g (period_of g) (node_count g) least → IsTurn g least
+pub turn_end : (g : Graph) (least : Node) → has_cycle g ≡ true → TurnSoFar g (period_of g) (node_count g) least → IsTurn g least
 turn_end g least h r =
     let within : period_of g ≤ node_count g = (is_period g h).within in
     record {
@@ -78,7 +81,7 @@ abbrev pub NotAgain : Graph → Node → ℕ → Type 0
 NotAgain g least t = (q : ℕ) → 0 < q → q < t + 1 → back_times g least q ≢ least
 
 -- it comes again in as many steps as there are nodes
-pub comes : (g : Graph) (least : Node) → has_core g ≡ true → IsTurn g least → NotAgain g least (node_count g) → ⊥
+pub comes : (g : Graph) (least : Node) → has_cycle g ≡ true → IsTurn g least → NotAgain g least (node_count g) → ⊥
 comes g least h turn fresh =
     let r = is_period g h in
     let some : 0 < period_of g = r.some in
@@ -89,7 +92,7 @@ comes g least h turn fresh =
 abbrev pub gathered_nodes : Graph → Node → ℕ → List Node
 gathered_nodes g least t = map (λ i. back_times g least (suc i)) (range_with_len 0 t)
 
-pub gathered : (g : Graph) (least : Node) (t : ℕ) → has_core g ≡ true → IsTurn g least → NotAgain g least t → back_times g least (suc t) ≡ least → IsWitnessCycle g (reverse (gathered_nodes g least (suc t)))
+pub gathered : (g : Graph) (least : Node) (t : ℕ) → has_cycle g ≡ true → IsTurn g least → NotAgain g least t → back_times g least (suc t) ≡ least → IsWitnessCycle g (reverse (gathered_nodes g least (suc t)))
 gathered g least t h turn fresh again =
     let r = is_period g h in
     let p : ℕ = period_of g in
@@ -131,5 +134,5 @@ not_again_more g least t fresh ne q pos l e = elim (cases_eq q (suc t)) [
   | inr a ↦ fresh q pos (omega arith) e
 ]
 
-pub around_core : (g : Graph) (least : Node) → has_core g ≡ true → IsTurn g least → (t : ℕ) → is_core g (back_times g least t) ≡ true
+pub around_core : (g : Graph) (least : Node) → has_cycle g ≡ true → IsTurn g least → (t : ℕ) → is_core g (back_times g least t) ≡ true
 around_core g least h turn t = ap (is_core g) (back_around g turn.s least turn.is t) ∙ path_core g h (t + (turn.s + node_count g))

@@ -3,10 +3,11 @@ use Rattle.std.proofs.Common.{ap₂, ◌≡◌, ℕ, ◌+◌, ◌-◌, ◌*◌, 
 use Rattle.std.proofs.lemmas.Bool.{cases_lt, and_parts, and_from, not-true, not_from_false, ltb-true, lt-ltb, eqb-true, eq-eqb}
 use Rattle.std.proofs.lemmas.List.{get_or_append_left, get_or_at}
 use Rattle.std.proofs.lemmas.Nat.{div-mul-add, mod-mul-add, mul-add-lt}
-use Rattle.recovery_analysis.specs.declared.node.Node.{Node}
-use Rattle.recovery_analysis.specs.Walk.{Graph, node_count, IsUnvoted, StepsTo, no_node, at, IsUnvotedWalk, EndsWalk}
-use Rattle.recovery_analysis.specs.Levels.{number, make_node, node_of, is_unvoted, steps_to, level}
-use Rattle.recovery_analysis.proofs.SearchLemmas.{any_found, any_of}
+use Rattle.rcp_model.specs.declared.node.Node.{Node}
+use Rattle.rcp_model.specs.Walk.{Graph, node_count, IsUnvoted, StepsTo, no_node, at, IsUnvotedWalk, EndsWalk}
+use Rattle.rcp_model.specs.Levels.{number, node_of, is_unvoted, steps_to, level}
+use Rattle.recovery_analysis.specs.Levels.{make_node}
+use Rattle.rcp_base.proofs.SearchLaws.{any_found, any_of}
 
 pub node_of-number : (g : Graph) (n : Node) → n.cell < g.cells → node_of g (number g n) ≡ n
 node_of-number g n h =

@@ -1,7 +1,6 @@
 pub mod SearchLemmas
 pub mod OrderLemmas
 pub mod UniqueLemmas
-pub mod BitLemmas
 pub mod LevelLemmas
 pub mod CoreLemmas
 pub mod CycleLemmas
@@ -9,3 +8,4 @@ pub mod GatherLemmas
 pub mod WalkLemmas
 pub mod MarkLemmas
 pub mod TransferLemmas
+pub mod ShownLemmas

@@ -5,15 +5,17 @@ use Rattle.std.proofs.lemmas.Nat.{mul-add-lt, same_from_place, div_below}
 use Rattle.std.proofs.Math.Nat.{mul-le-mul_right, mod-lt, mod-eq_of_lt, mod_self}
 use Rattle.std.proofs.lemmas.List.{get_or_append_left, get_or_at}
 use Rattle.std.specs.Prelude.{bit_and}
-use Rattle.recovery_analysis.specs.Bits.{has_bit, SetsBit}
-use Rattle.recovery_analysis.specs.declared.node.Node.{Node}
-use Rattle.recovery_analysis.specs.Walk.{Graph, node_count, IsUnvoted}
-use Rattle.recovery_analysis.specs.Levels.{AnswersBefore, make_node, node_of, AreWords, IsWordOf, is_unvoted, steps_to, level, goes, slot_before, enters, IsNode}
-use Rattle.recovery_analysis.specs.Search.{some_below, first_below, IsFirst}
-use Rattle.recovery_analysis.proofs.SearchLemmas.{any_of, none_any, first_is}
+use Rattle.rcp_base.specs.Bits.{has_bit}
+use Rattle.rcp_base.specs.Bits.{WritesBit}
+use Rattle.rcp_model.specs.declared.node.Node.{Node}
+use Rattle.rcp_model.specs.Walk.{Graph, node_count, IsUnvoted}
+use Rattle.recovery_analysis.specs.Levels.{AnswersBefore, make_node, AreWords, IsWordOf, slot_before, enters, IsNode}
+use Rattle.rcp_model.specs.Levels.{node_of, is_unvoted, steps_to, level, goes}
+use Rattle.rcp_base.specs.Search.{any_below, first_below, IsFirst}
+use Rattle.rcp_base.proofs.SearchLaws.{any_of, none_any, first_is}
 use Rattle.recovery_analysis.proofs.LevelLemmas.{node_of-number, level_unvoted, level_zero, is_unvoted_from, steps_to_parts}
 use Rattle.recovery_analysis.proofs.CoreLemmas.{number-node_of}
-use Rattle.recovery_analysis.proofs.BitLemmas.{has_bit_and, has_bit_zero}
+use Rattle.rcp_base.proofs.BitLaws.{has_bit_and, has_bit_zero}
 use Rattle.std.specs.Option.{is_some, MatchOption}
 
 row_place : (s c M C : ℕ) → s < M → c < C → s * C + c < M * C
@@ -88,16 +90,16 @@ first_before g k n d node r =
           (ap (goes g k n) place ∙ sym (enters_is g k n (w % g.cells) node q.cell_in) ∙ r.none (w % g.cells) (omega arith)) t);
     }
 
-pub none_before : (g : Graph) (k : ℕ) (n : Node) → IsNode g n → ((d : ℕ) → d < g.cells → enters g k n d ≡ false) → some_below (node_count g) (goes g k n) ≡ false
+pub none_before : (g : Graph) (k : ℕ) (n : Node) → IsNode g n → ((d : ℕ) → d < g.cells → enters g k n d ≡ false) → any_below (node_count g) (goes g k n) ≡ false
 none_before g k n node r =
     none_any (node_count g) (goes g k n) (λ w l. false_from_ne_true (goes g k n w) (λ t.
     let q = before_is g k n w node t in
     both_ways (goes g k n w)
     (ap (goes g k n) q.place ∙ sym (enters_is g k n (w % g.cells) node q.cell_in) ∙ r (w % g.cells) q.cell_in) t))
 
-pub level_more : (g : Graph) (k : ℕ) (n : Node) → IsUnvoted g n → level g (suc k) n ≡ some_below (node_count g) (goes g k n)
+pub level_more : (g : Graph) (k : ℕ) (n : Node) → IsUnvoted g n → level g (suc k) n ≡ any_below (node_count g) (goes g k n)
 unfolding level
-level_more g k n u = and-true (is_unvoted g n) (some_below (node_count g) (goes g k n)) (is_unvoted_from g n u)
+level_more g k n u = and-true (is_unvoted g n) (any_below (node_count g) (goes g k n)) (is_unvoted_from g n u)
 
 pub some_is_level : (g : Graph) (k : ℕ) (n : Node) (o : Option ℕ) → IsUnvoted g n → AnswersBefore g k n o → is_some o ≡ level g (suc k) n
 some_is_level g k n None u a = sym (level_more g k n u ∙ none_before g k n (record { slot_in = u.slot_in; cell_in = u.cell_in }) a)
@@ -167,7 +169,7 @@ first_node g k s c slots here cells =
           ];
     }
 
-pub no_node_marked : (g : Graph) (k : ℕ) → ((r d : ℕ) → r < g.slots → level g k (make_node r d) ≡ false) → some_below (node_count g) (λ v. level g k (node_of g v)) ≡ false
+pub no_node_marked : (g : Graph) (k : ℕ) → ((r d : ℕ) → r < g.slots → level g k (make_node r d) ≡ false) → any_below (node_count g) (λ v. level g k (node_of g v)) ≡ false
 no_node_marked g k h = none_any (node_count g) (λ v. level g k (node_of g v)) (λ w l. let n = node_in g w l in h (w / g.cells) (w % g.cells) n.slot_in)
 
 -- the bits of a word are the cells that feed the node's cell
@@ -220,10 +222,10 @@ pub record WordBelow (g : Graph) (k s i w : ℕ) : Type 0 where
 pub word_begin : (g : Graph) (k s : ℕ) → WordBelow g k s 0 0
 word_begin g k s = record { below = λ c l. absurd (omega arith); none = λ c l. has_bit_zero c }
 
-pub word_set : (g : Graph) (k s i w new : ℕ) → WordBelow g k s i w → SetsBit w i new → level g k (make_node s i) ≡ true → WordBelow g k s (i + 1) new
+pub word_set : (g : Graph) (k s i w new : ℕ) → WordBelow g k s i w → WritesBit w new i true → level g k (make_node s i) ≡ true → WordBelow g k s (i + 1) new
 word_set g k s i w new r sets t = record {
   below = λ c l. elim (cases_eq c i) [
-    | inl a ↦ ap (has_bit new) a ∙ sets.set ∙ sym t ∙ ap (λ (x : ℕ). level g k (make_node s x)) (sym a)
+    | inl a ↦ ap (has_bit new) a ∙ sets.here ∙ sym t ∙ ap (λ (x : ℕ). level g k (make_node s x)) (sym a)
     | inr a ↦ sets.others c a ∙ r.below c (omega arith)
   ];
   none = λ c l. let ne : c ≢ i = λ e. omega arith in sets.others c ne ∙ r.none c (omega arith);

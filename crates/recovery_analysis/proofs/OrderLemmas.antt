@@ -5,10 +5,11 @@ use Rattle.std.proofs.Math.Nat.{mul-le-mul_right}
 use Rattle.std.specs.declared.cmp.Ordering.{Ordering}
 use Rattle.std.specs.declared.cmp.Ordering.TheVariants.{Less, Equal, Greater}
 use Rattle.std.specs.Ordering.{nat_cmp, ordering_then, partial_ordering_then, is_some_and, is_le, is_lt}
-use Rattle.recovery_analysis.specs.declared.node.Node.{Node}
-use Rattle.recovery_analysis.specs.Walk.{Graph}
-use Rattle.recovery_analysis.specs.Node.{IsUpTo, node_cmp}
-use Rattle.recovery_analysis.specs.Levels.{number, make_node}
+use Rattle.rcp_model.specs.declared.node.Node.{Node}
+use Rattle.rcp_model.specs.Walk.{Graph}
+use Rattle.rcp_model.specs.Node.{IsUpTo, node_cmp}
+use Rattle.rcp_model.specs.Levels.{number}
+use Rattle.recovery_analysis.specs.Levels.{make_node}
 
 less : (a b : ℕ) → a < b → nat_cmp a b ≡ Less
 less a b h = cond-true (ltb a b) _ _ (lt-ltb a b h)

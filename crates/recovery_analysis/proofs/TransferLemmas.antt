@@ -1,18 +1,13 @@
 -- Graphs that agree in range have the same walks, cycles and verdicts.
 use Rattle.std.proofs.Common.{◌≡◌, ℕ, ◌+◌, ◌-◌, ◌<◌, zero, suc, Bool, List, length, inl, inr, sym, ◌∙◌, subst, arith}
 use Rattle.std.proofs.lemmas.Bool.{cases_lt}
-use Rattle.rcp_model.specs.declared.plan.PlanParts.{PlanParts}
-use Rattle.rcp_model.specs.Slot.{slot_count}
-use Rattle.task_graph.specs.Dependence.{feeds}
-use Rattle.rcp_model.specs.Messages.{is_voted}
-use Rattle.task_graph.specs.Rows.{Rows, IsDependenceOf}
-use Rattle.vote_pattern.specs.Votes.{Votes, IsPatternOf}
+use Rattle.task_graph.specs.Rows.{Rows, AreFeedsOf}
+use Rattle.vote_pattern.specs.Votes.{Votes, AreVotesOf}
 use Rattle.recovery_analysis.specs.Graphs.{graph_of}
-use Rattle.recovery_analysis.specs.PlanGraph.{graph_of_plan}
-use Rattle.recovery_analysis.specs.declared.node.Node.{Node}
-use Rattle.recovery_analysis.specs.Walk.{Graph, node_count, at, IsUnvoted, StepsTo, IsUnvotedWalk, EndsWalk, IsUnvotedCycle}
-use Rattle.recovery_analysis.specs.Node.{IsLeast}
-use Rattle.recovery_analysis.specs.Witness.{IsCore, IsReached, IsWitnessCycle, IsWitnessWalk}
+use Rattle.rcp_model.specs.declared.node.Node.{Node}
+use Rattle.rcp_model.specs.Walk.{Graph, node_count, at, IsUnvoted, StepsTo, IsUnvotedWalk, EndsWalk, IsUnvotedCycle}
+use Rattle.rcp_model.specs.Node.{IsLeast}
+use Rattle.rcp_model.specs.Witness.{IsCore, IsReached, IsWitnessCycle, IsWitnessWalk}
 use Rattle.recovery_analysis.specs.declared.verdict.Verdict.{Verdict}
 use Rattle.recovery_analysis.specs.declared.verdict.Verdict.TheVariants.{Recovers, Cycle}
 use Rattle.recovery_analysis.specs.Verdict.{IsVerdict}
@@ -117,20 +112,19 @@ verdict_to g f v a (Recovers k nodes) r =
       walk = witness_walk_to g f v a nodes r.walk;
     }
 
-agree_with_plan : (plan : PlanParts) (rows : Rows) (votes : Votes) → IsDependenceOf plan rows → IsPatternOf plan votes
-    → Agree (graph_of rows votes) (feeds plan) (is_voted plan)
-agree_with_plan plan rows votes dependence pattern =
-    let slots : rows.slots ≡ slot_count plan = dependence.slots in
-    let cells : rows.cells ≡ length plan.cells = dependence.cells in
+agree_with : (g : Graph) (rows : Rows) (votes : Votes) → AreFeedsOf g rows → AreVotesOf g votes → Agree (graph_of rows votes) g.feeds g.votes
+agree_with g rows votes dependence pattern =
+    let slots : rows.slots ≡ g.slots = dependence.slots in
+    let cells : rows.cells ≡ g.cells = dependence.cells in
     record {
       feeds = λ s d c p q r. dependence.needs s c d (omega arith) (omega arith) (omega arith);
       votes = λ s c p q. pattern.each s c (omega arith) (omega arith);
     }
 
--- the verdict on rows and votes is that on the plan whose they are
-pub verdict_of_plan : (plan : PlanParts) (rows : Rows) (votes : Votes) (d : Verdict) → IsVerdict (graph_of rows votes) d
-    → IsDependenceOf plan rows → IsPatternOf plan votes → IsVerdict (graph_of_plan plan) d
-verdict_of_plan plan rows votes d v dependence pattern =
-    let over = verdict_to (graph_of rows votes) (feeds plan) (is_voted plan) (agree_with_plan plan rows votes dependence pattern) d v in
-    subst (λ (m : ℕ). IsVerdict (record { slots = m; cells = length plan.cells; feeds = feeds plan; votes = is_voted plan }) d) dependence.slots
-    (subst (λ (n : ℕ). IsVerdict (record { slots = rows.slots; cells = n; feeds = feeds plan; votes = is_voted plan }) d) dependence.cells over)
+-- the verdict on rows and votes is that on a graph whose they are
+pub verdict_over : (g : Graph) (rows : Rows) (votes : Votes) (d : Verdict) → IsVerdict (graph_of rows votes) d
+    → AreFeedsOf g rows → AreVotesOf g votes → IsVerdict g d
+verdict_over g rows votes d v dependence pattern =
+    let over = verdict_to (graph_of rows votes) g.feeds g.votes (agree_with g rows votes dependence pattern) d v in
+    subst (λ (m : ℕ). IsVerdict (record { slots = m; cells = g.cells; feeds = g.feeds; votes = g.votes }) d) dependence.slots
+    (subst (λ (n : ℕ). IsVerdict (record { slots = rows.slots; cells = n; feeds = g.feeds; votes = g.votes }) d) dependence.cells over)

@@ -4,10 +4,10 @@ use Rattle.std.proofs.lemmas.Bool.{cases_lt, cases_eq, both_ways}
 use Rattle.std.proofs.lemmas.List.{ext_get_or}
 use Rattle.std.specs.declared.cmp.Ordering.{Ordering}
 use Rattle.std.specs.Ordering.{nat_cmp, ordering_then, is_le}
-use Rattle.recovery_analysis.specs.declared.node.Node.{Node}
-use Rattle.recovery_analysis.specs.Node.{node_cmp, IsUpTo, IsLeast}
-use Rattle.recovery_analysis.specs.Walk.{Graph, node_count, StepsTo, at, no_node, EndsWalk}
-use Rattle.recovery_analysis.specs.Witness.{IsCore, IsBack, IsReached, IsWitnessCycle, IsWitnessWalk}
+use Rattle.rcp_model.specs.declared.node.Node.{Node}
+use Rattle.rcp_model.specs.Node.{node_cmp, IsUpTo, IsLeast}
+use Rattle.rcp_model.specs.Walk.{Graph, node_count, StepsTo, at, no_node, EndsWalk}
+use Rattle.rcp_model.specs.Witness.{IsCore, IsBack, IsReached, IsWitnessCycle, IsWitnessWalk}
 use Rattle.recovery_analysis.specs.Levels.{make_node}
 use Rattle.recovery_analysis.proofs.OrderLemmas.{greater, equal}
 

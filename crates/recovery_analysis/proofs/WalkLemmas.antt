@@ -1,22 +1,22 @@
 -- The walk that is shown.
-use Rattle.std.proofs.Common.{[], ◌∷◌, ◌++◌, ◌≡◌, ℕ, ◌+◌, ◌-◌, ◌*◌, ◌<◌, ◌≤◌, zero, suc, true, false, ◌&&◌, List, length, map, reverse, sym, ◌∙◌, ap, subst, arith}
+use Rattle.std.proofs.Common.{[], ◌∷◌, ◌++◌, ◌≡◌, ℕ, ◌+◌, ◌-◌, ◌*◌, ◌<◌, ◌≤◌, zero, suc, true, false, ◌&&◌, List, length, reverse, sym, ◌∙◌, ap, subst, arith}
 use Rattle.std.proofs.lemmas.Bool.{and_parts, and_from, both_ways}
 use Rattle.std.proofs.lemmas.List.{get_or-reverse, length-reverse}
 use Rattle.std.proofs.lemmas.List.FromFn.{map-range_with_len_more, length-map-range_with_len, get_or-map-range_with_len}
 use Rattle.std.proofs.Math.Nat.{mul-le-mul_right}
-use Rattle.std.specs.List.{range_with_len}
-use Rattle.recovery_analysis.specs.declared.node.Node.{Node}
-use Rattle.recovery_analysis.specs.Walk.{Graph, node_count, no_node, at, IsUnvoted, StepsTo, EndsWalk}
-use Rattle.recovery_analysis.specs.Levels.{number, node_of, steps_to, level, goes, walk_node, has_level_node}
-use Rattle.recovery_analysis.specs.Node.{IsLeast}
-use Rattle.recovery_analysis.specs.Search.{some_below, first_below}
-use Rattle.recovery_analysis.specs.Witness.{IsWitnessWalk, IsWitnessWalkOf}
+use Rattle.rcp_model.specs.declared.node.Node.{Node}
+use Rattle.rcp_model.specs.Walk.{Graph, node_count, no_node, at, IsUnvoted, StepsTo, EndsWalk}
+use Rattle.rcp_model.specs.Levels.{number, node_of, steps_to, level, goes, has_level_node}
+use Rattle.rcp_model.specs.Shown.{walk_node, walk_nodes}
+use Rattle.rcp_model.specs.Node.{IsLeast}
+use Rattle.rcp_base.specs.Search.{any_below, first_below}
+use Rattle.rcp_model.specs.Witness.{IsWitnessWalk, IsWitnessWalkOf}
 use Rattle.recovery_analysis.specs.Verdict.{IsRecovery}
-use Rattle.recovery_analysis.proofs.SearchLemmas.{any_of, any_found, first_is}
+use Rattle.rcp_base.proofs.SearchLaws.{any_of, any_found, first_is}
 use Rattle.recovery_analysis.proofs.LevelLemmas.{node_of-number, number-lt, level_unvoted, level_back, level_of_ends, ends_of_level, steps_to_parts, steps_to_from}
 use Rattle.recovery_analysis.proofs.CoreLemmas.{least_of_first, cycle_level}
 
-pub goes_some : (g : Graph) (k : ℕ) (n : Node) → level g (suc k) n ≡ true → some_below (node_count g) (goes g k n) ≡ true
+pub goes_some : (g : Graph) (k : ℕ) (n : Node) → level g (suc k) n ≡ true → any_below (node_count g) (goes g k n) ≡ true
 goes_some g k n h =
     let b = level_back g k n h in
     let u = level_unvoted g k b.m b.level in
@@ -33,7 +33,7 @@ level_least g k h =
     (first_below (node_count g) (λ v. level g k (node_of g v))) (first_is (node_count g) (λ v. level g k (node_of g v)) h)
 
 -- the least node of a level that steps to a node
-pub goes_least : (g : Graph) (k : ℕ) (n : Node) → some_below (node_count g) (goes g k n) ≡ true → IsLeast (λ m. EndsWalk g (suc k) m × StepsTo g m n) (node_of g (first_below (node_count g) (goes g k n)))
+pub goes_least : (g : Graph) (k : ℕ) (n : Node) → any_below (node_count g) (goes g k n) ≡ true → IsLeast (λ m. EndsWalk g (suc k) m × StepsTo g m n) (node_of g (first_below (node_count g) (goes g k n)))
 goes_least g k n h =
     least_of_first g (λ m. steps_to g m n && level g k m) (λ m. EndsWalk g (suc k) m × StepsTo g m n)
     (λ m p. let q = and_parts (steps_to g m n) (level g k m) p in (ends_of_level g k m q.1, steps_to_parts g m n q.0))
@@ -50,7 +50,7 @@ walk_level g k h (suc j) l =
     let before = level_number g (k - j) (suc (k - suc j)) (walk_node g k j) (omega arith) (walk_level g k h j (omega arith)) in
     level_of_ends g (k - suc j) (walk_node g k (suc j)) (goes_least g (k - suc j) (walk_node g k j) (goes_some g (k - suc j) (walk_node g k j) before)).has.0
 
-pub walk_some : (g : Graph) (k : ℕ) → has_level_node g k ≡ true → (j : ℕ) → j < k → some_below (node_count g) (goes g (k - suc j) (walk_node g k j)) ≡ true
+pub walk_some : (g : Graph) (k : ℕ) → has_level_node g k ≡ true → (j : ℕ) → j < k → any_below (node_count g) (goes g (k - suc j) (walk_node g k j)) ≡ true
 walk_some g k h j l = goes_some g (k - suc j) (walk_node g k j) (level_number g (k - j) (suc (k - suc j)) (walk_node g k j) (omega arith) (walk_level g k h j (omega arith)))
 
 ends_number : (g : Graph) (i j : ℕ) (n : Node) → i ≡ j → IsLeast (EndsWalk g i) n → IsLeast (EndsWalk g j) n
@@ -58,9 +58,6 @@ ends_number g i j n e h = subst (λ (x : ℕ). IsLeast (EndsWalk g x) n) e h
 
 goes_number : (g : Graph) (i j : ℕ) (m n : Node) → i ≡ j → IsLeast (λ x. EndsWalk g i x × StepsTo g x n) m → IsLeast (λ x. EndsWalk g j x × StepsTo g x n) m
 goes_number g i j m n e h = subst (λ (y : ℕ). IsLeast (λ x. EndsWalk g y x × StepsTo g x n) m) e h
-
-abbrev pub walk_nodes : Graph → ℕ → ℕ → List Node
-walk_nodes g k t = map (walk_node g k) (range_with_len 0 t)
 
 pub walk_is_witness : (g : Graph) (k : ℕ) → has_level_node g k ≡ true → IsWitnessWalk g (reverse (walk_nodes g k (suc k)))
 walk_is_witness g k h =
@@ -118,10 +115,10 @@ walk_nodes_more g k t old new node e n p =
     p ∙ ap (λ (xs : List Node). xs ++ node ∷ []) e ∙ ap (λ (x : Node). walk_nodes g k t ++ x ∷ []) n
     ∙ sym (map-range_with_len_more (walk_node g k) 0 t t (omega arith))
 
-pub walk_some_at : (g : Graph) (k i : ℕ) (node : Node) → has_level_node g k ≡ true → i < k → node ≡ walk_node g k i → some_below (node_count g) (goes g (k - 1 - i) node) ≡ true
+pub walk_some_at : (g : Graph) (k i : ℕ) (node : Node) → has_level_node g k ≡ true → i < k → node ≡ walk_node g k i → any_below (node_count g) (goes g (k - 1 - i) node) ≡ true
 walk_some_at g k i node h l e =
     let a : k - 1 - i ≡ k - suc i = omega arith in
-    ap (λ (x : ℕ). some_below (node_count g) (goes g x node)) a ∙ ap (λ (x : Node). some_below (node_count g) (goes g (k - suc i) x)) e ∙ walk_some g k h i l
+    ap (λ (x : ℕ). any_below (node_count g) (goes g x node)) a ∙ ap (λ (x : Node). any_below (node_count g) (goes g (k - suc i) x)) e ∙ walk_some g k h i l
 
 pub walk_unvoted : (g : Graph) (k i : ℕ) (node : Node) → has_level_node g k ≡ true → i ≤ k → node ≡ walk_node g k i → IsUnvoted g node
 walk_unvoted g k i node h l e = level_unvoted g (k - i) node (ap (level g (k - i)) e ∙ walk_level g k h i l)

@@ -2,7 +2,7 @@
 use Rattle.std.specs.Prelude.{◌≡◌}
 use Rattle.task_graph.specs.Rows.{Rows, needs_in}
 use Rattle.vote_pattern.specs.Votes.{Votes, is_in}
-use Rattle.recovery_analysis.specs.Walk.{Graph}
+use Rattle.rcp_model.specs.Walk.{Graph}
 
 -- the cell that is fed needs the one that feeds it
 abbrev pub graph_of : Rows → Votes → Graph

@@ -1,8 +1,9 @@
 -- What follows from the definitions of unvoted walks, for all graphs. This project's own.
 use Rattle.std.specs.Prelude.{◌≡◌, ◌↔◌, ◌+◌, List, length}
-use Rattle.recovery_analysis.specs.declared.node.Node.{Node}
-use Rattle.recovery_analysis.specs.Walk.{Graph, IsUnvotedCycle, EndsWalk, node_count}
-use Rattle.recovery_analysis.specs.Witness.{IsWitnessCycle, IsWitnessWalk}
+use Rattle.rcp_model.specs.declared.node.Node.{Node}
+use Rattle.rcp_model.specs.Walk.{Graph, IsUnvotedCycle, EndsWalk, node_count}
+use Rattle.rcp_model.specs.Witness.{IsWitnessCycle, IsWitnessWalk}
+use Rattle.recovery_analysis.specs.Verdict.{IsVerdict, verdict_of}
 
 -- there is an unvoted cycle exactly where there is an unvoted walk of one node more than there are nodes
 abbrev pub CycleIffLongWalk : Type 0
@@ -20,3 +21,8 @@ pub record WitnessesAreUnique (g : Graph) : Type 0 where
 
 abbrev pub EachWitnessIsUnique : Type 0
 EachWitnessIsUnique = (g : Graph) → WitnessesAreUnique g
+
+-- the verdict on a graph is right: the cycle that is shown is one, and the one of the definition; or there is none, and the
+-- length is the least and the walk that of the definition
+abbrev pub TheVerdictIsRight : Type 0
+TheVerdictIsRight = (g : Graph) → IsVerdict g (verdict_of g)

@@ -1,12 +1,5 @@
-pub mod Node
-pub mod Walk
-pub mod Recovery
-pub mod Witness
-pub mod Search
 pub mod Levels
 pub mod Around
-pub mod Bits
 pub mod Graphs
-pub mod PlanGraph
 pub mod Verdict
 pub mod Laws

@@ -1,15 +1,15 @@
 -- What the analysis of a vote pattern answers. After NASA TM-102716.
-use Rattle.std.specs.Prelude.{◌≡◌, ℕ, ◌+◌, List, length}
-use Rattle.rcp_model.specs.declared.plan.PlanParts.{PlanParts}
-use Rattle.task_graph.specs.Rows.{Rows, IsDependenceOf}
-use Rattle.vote_pattern.specs.Votes.{Votes, IsPatternOf}
-use Rattle.recovery_analysis.specs.declared.node.Node.{Node}
+use Rattle.std.specs.Prelude.{◌≡◌, ℕ, ◌+◌, List, length, if◌then◌else◌}
+use Rattle.task_graph.specs.Rows.{Rows, AreFeedsOf}
+use Rattle.vote_pattern.specs.Votes.{Votes, AreVotesOf}
+use Rattle.rcp_model.specs.declared.node.Node.{Node}
 use Rattle.recovery_analysis.specs.declared.verdict.Verdict.{Verdict}
 use Rattle.recovery_analysis.specs.declared.verdict.Verdict.TheVariants.{Recovers, Cycle}
-use Rattle.recovery_analysis.specs.Walk.{Graph, IsUnvotedCycle}
-use Rattle.recovery_analysis.specs.PlanGraph.{graph_of_plan}
-use Rattle.recovery_analysis.specs.Recovery.{IsRecoveryLength}
-use Rattle.recovery_analysis.specs.Witness.{IsWitnessWalk, IsWitnessCycle}
+use Rattle.rcp_model.specs.Walk.{Graph, IsUnvotedCycle}
+use Rattle.rcp_model.specs.Levels.{has_cycle}
+use Rattle.rcp_model.specs.Shown.{recovery_length, witness_walk, witness_cycle}
+use Rattle.rcp_model.specs.Recovery.{IsRecoveryLength}
+use Rattle.rcp_model.specs.Witness.{IsWitnessWalk, IsWitnessCycle}
 
 -- no unvoted cycle: the least number of nodes that no unvoted walk has, and the walk of one node fewer
 pub record IsRecovery (g : Graph) (k : ℕ) (nodes : List Node) : Type 0 where
@@ -27,7 +27,10 @@ abbrev pub IsVerdict : Graph → Verdict → Type 0
 IsVerdict g (Recovers k walk) = IsRecovery g k walk
 IsVerdict g (Cycle nodes) = IsCycleAnswer g nodes
 
--- it is the verdict of each plan that has these rows and votes
-abbrev pub IsVerdictOfPlans : Rows → Votes → Verdict → Type 0
-IsVerdictOfPlans rows votes verdict =
-    (plan : PlanParts) → IsDependenceOf plan rows → IsPatternOf plan votes → IsVerdict (graph_of_plan plan) verdict
+-- the verdict on a graph
+abbrev pub verdict_of : Graph → Verdict
+verdict_of g = if has_cycle g then Cycle (witness_cycle g) else Recovers (recovery_length g) (witness_walk g)
+
+-- it is the verdict on each graph that has these rows and votes
+abbrev pub IsVerdictOfGraphs : Rows → Votes → Verdict → Type 0
+IsVerdictOfGraphs rows votes verdict = (g : Graph) → AreFeedsOf g rows → AreVotesOf g votes → verdict ≡ verdict_of g

@@ -2,16 +2,18 @@
 //! A core node ends an unvoted walk of more nodes than there are, so that a core node steps to it.
 //! This project's own.
 ghost use Rattle.std.specs.Prelude.{IsTrue, ◌≡◌, IfOk};
-ghost use Rattle.recovery_analysis.specs.Walk.{node_count};
+ghost use Rattle.rcp_model.specs.Walk.{node_count};
 ghost use Rattle.recovery_analysis.specs.Graphs.{graph_of, IsOneSize};
-ghost use Rattle.recovery_analysis.specs.Levels.{IsFull, start_node, is_core, back_node, path, has_core};
-ghost use Rattle.recovery_analysis.specs.Witness.{IsWitnessCycle};
+ghost use Rattle.recovery_analysis.specs.Levels.{IsFull, is_core};
+ghost use Rattle.rcp_model.specs.Shown.{start_node, back_node, path};
+ghost use Rattle.rcp_model.specs.Levels.{has_cycle};
+ghost use Rattle.rcp_model.specs.Witness.{IsWitnessCycle};
 ghost use Rattle.recovery_analysis.specs.Around.{IsTurn};
 
 use crate::levels;
-use crate::node::Node;
 use crate::walks::{back, list_of};
 use rcp_base::{List, Memory};
+use rcp_model::Node;
 use std::alloc::Global;
 use task_graph::DepRows;
 use vote_pattern::Pattern;
@@ -31,7 +33,7 @@ fn core_back(rows: &DepRows, pattern: &Pattern, words: &[u64], node: Node) -> No
 fn reached(rows: &DepRows, pattern: &Pattern, words: &[u64], start: Node) -> Node
     requires size { IsOneSize rows.now pattern.now }
     requires words { IsFull (graph_of rows.now pattern.now) words.now }
-    requires core { IsTrue (has_core (graph_of rows.now pattern.now)) }
+    requires core { IsTrue (has_cycle (graph_of rows.now pattern.now)) }
     requires start { start ≡ start_node (graph_of rows.now pattern.now) }
     ensures { let g = graph_of rows.now pattern.now in result ≡ path g (node_count g) }
 {
@@ -46,7 +48,7 @@ fn reached(rows: &DepRows, pattern: &Pattern, words: &[u64], start: Node) -> Nod
 fn turn(rows: &DepRows, pattern: &Pattern, words: &[u64], reached: Node) -> Node
     requires size { IsOneSize rows.now pattern.now }
     requires words { IsFull (graph_of rows.now pattern.now) words.now }
-    requires core { IsTrue (has_core (graph_of rows.now pattern.now)) }
+    requires core { IsTrue (has_cycle (graph_of rows.now pattern.now)) }
     requires reached { let g = graph_of rows.now pattern.now in reached ≡ path g (node_count g) }
     ensures { IsTurn (graph_of rows.now pattern.now) result }
 {
@@ -71,7 +73,7 @@ fn gather(
 ) -> Result<List<Node>, Memory>
     requires size { IsOneSize rows.now pattern.now }
     requires words { IsFull (graph_of rows.now pattern.now) words.now }
-    requires core { IsTrue (has_core (graph_of rows.now pattern.now)) }
+    requires core { IsTrue (has_cycle (graph_of rows.now pattern.now)) }
     requires least { IsTurn (graph_of rows.now pattern.now) least }
     ensures { IfOk result (IsWitnessCycle (graph_of rows.now pattern.now)) }
 {
@@ -99,7 +101,7 @@ pub fn cycle_of(
 ) -> Result<List<Node>, Memory>
     requires size { IsOneSize rows.now pattern.now }
     requires words { IsFull (graph_of rows.now pattern.now) words.now }
-    requires core { IsTrue (has_core (graph_of rows.now pattern.now)) }
+    requires core { IsTrue (has_cycle (graph_of rows.now pattern.now)) }
     requires start { start ≡ start_node (graph_of rows.now pattern.now) }
     ensures { IfOk result (IsWitnessCycle (graph_of rows.now pattern.now)) }
 {

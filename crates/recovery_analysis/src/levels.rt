@@ -3,11 +3,11 @@
 //! This project's own.
 ghost use Rattle.std.specs.Prelude.{vec_len, if◌then◌else◌, ◌==◌, ◌≡◌, ◌<◌, ◌≤◌, ◌*◌, ◌+◌, ◌-◌, length, OnOk};
 ghost use Rattle.recovery_analysis.specs.Graphs.{graph_of, IsOneSize};
-ghost use Rattle.recovery_analysis.specs.Levels.{level, AnswersBefore, AreWords, IsWordOf, IsNode};
+ghost use Rattle.rcp_model.specs.Levels.{level};
+ghost use Rattle.recovery_analysis.specs.Levels.{AnswersBefore, AreWords, IsWordOf, IsNode};
 
-use crate::bits;
-use crate::node::Node;
-use rcp_base::Memory;
+use rcp_base::{Memory, bits};
+use rcp_model::Node;
 use task_graph::DepRows;
 use vote_pattern::Pattern;
 

@@ -2,9 +2,9 @@
 //! This project's own.
 ghost use Rattle.std.specs.Prelude.{◌≡◌, IfOk, length};
 
-use crate::{Node, Verdict, analyse};
+use crate::{Verdict, analyse};
 use rcp_base::{List, Name};
-use rcp_model::{Expr, PlanParts, SetRow, SlotRow, Task, Timing, Variable};
+use rcp_model::{Expr, Node, PlanParts, SetRow, SlotRow, Task, Timing, Variable};
 use std::alloc::Global;
 use std::test::Fail;
 use task_graph::rows_of;

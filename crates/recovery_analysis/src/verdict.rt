@@ -2,13 +2,13 @@
 //! After NASA TM-102716; the code is this project's own.
 ghost use Rattle.std.specs.Prelude.{◌≡◌, IfOk};
 ghost use Rattle.recovery_analysis.specs.Graphs.{graph_of};
-ghost use Rattle.recovery_analysis.specs.Verdict.{IsVerdict, IsVerdictOfPlans};
+ghost use Rattle.recovery_analysis.specs.Verdict.{IsVerdict, IsVerdictOfGraphs};
 
 use crate::cycles::cycle_of;
 use crate::levels::{node_count, push_level};
-use crate::node::Node;
 use crate::walks::{least, walk_before};
 use rcp_base::{List, Memory};
+use rcp_model::Node;
 use std::alloc::Global;
 use task_graph::DepRows;
 use vote_pattern::Pattern;
@@ -25,7 +25,7 @@ pub fn analyse(alloc: Global, rows: &DepRows, pattern: &Pattern) -> Result<Verdi
     requires slots { rows.now.slots ≡ pattern.now.slots }
     requires cells { rows.now.cells ≡ pattern.now.cells }
     ensures verdict { IfOk result (IsVerdict (graph_of rows.now pattern.now)) }
-    ensures plan { IfOk result (IsVerdictOfPlans rows.now pattern.now) }
+    ensures graph { IfOk result (IsVerdictOfGraphs rows.now pattern.now) }
 {
     let count = node_count(rows);
     let mut words = Vec::new(alloc);

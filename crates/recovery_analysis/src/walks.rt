@@ -2,12 +2,14 @@
 //! This project's own.
 ghost use Rattle.std.specs.Prelude.{IsTrue, ◌≡◌, ◌<◌, ◌≤◌, ◌*◌, ◌+◌, ◌-◌, length, IfOk};
 ghost use Rattle.recovery_analysis.specs.Graphs.{graph_of, IsOneSize};
-ghost use Rattle.recovery_analysis.specs.Levels.{AnswersLeast, AreWords, has_level_node, has_node_before, node_before, walk_node, IsNode};
-ghost use Rattle.recovery_analysis.specs.Witness.{IsWitnessWalkOf};
+ghost use Rattle.recovery_analysis.specs.Levels.{AnswersLeast, AreWords, has_node_before, IsNode};
+ghost use Rattle.rcp_model.specs.Levels.{has_level_node, node_before};
+ghost use Rattle.rcp_model.specs.Shown.{walk_node};
+ghost use Rattle.rcp_model.specs.Witness.{IsWitnessWalkOf};
 
-use crate::node::Node;
-use crate::{bits, levels};
-use rcp_base::{List, Memory};
+use crate::levels;
+use rcp_base::{List, Memory, bits};
+use rcp_model::Node;
 use std::alloc::Global;
 use task_graph::DepRows;
 use vote_pattern::Pattern;

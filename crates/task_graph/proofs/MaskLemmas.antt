@@ -12,10 +12,12 @@ use Rattle.rcp_model.specs.declared.expr.Expr.TheFolds.{fold-roll-Expr, ind-Expr
 use Rattle.rcp_model.specs.declared.task.LetRow.{LetRow}
 use Rattle.rcp_model.specs.declared.task.Task.{Task}
 use Rattle.rcp_model.specs.Task.{written}
-use Rattle.task_graph.specs.Dependence.{reads, reads_step, lets_reading_after, leads, leads_by}
-use Rattle.task_graph.specs.Masks.{has_bit, mask_of, mask_step, let_masks, let_masks_after, mask_by, task_row}
+use Rattle.rcp_model.specs.Dependence.{reads, reads_step, lets_reading_after, leads, leads_by}
+use Rattle.rcp_base.specs.Bits.{has_bit}
+use Rattle.task_graph.specs.Masks.{mask_of, mask_step, let_masks, let_masks_after, mask_by, task_row}
 use Rattle.task_graph.proofs.Trees.{map-map}
-use Rattle.task_graph.proofs.BitLemmas.{has_bit_or, has_bit_zero, has_bit_of}
+use Rattle.rcp_base.proofs.BitLaws.{has_bit_or, has_bit_zero}
+use Rattle.task_graph.proofs.BitLemmas.{has_bit_of}
 
 -- which of the words have the cell
 abbrev having : ℕ → List ℕ → List Bool

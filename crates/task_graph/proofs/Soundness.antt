@@ -14,10 +14,10 @@ use Rattle.rcp_model.specs.declared.plan.PlanParts.{PlanParts}
 use Rattle.rcp_model.specs.Expr.{Value, value_of, value_step, op_result}
 use Rattle.rcp_model.specs.Task.{let_values, let_values_after, written, cell_after, cells_after_task}
 use Rattle.rcp_model.specs.Slot.{tasks_of, cells_after_tasks, cells_after_slot}
-use Rattle.task_graph.specs.Dependence.{reads, reads_step, lets_reading, lets_reading_after, leads, leads_by, feeds_through, feeds}
+use Rattle.rcp_model.specs.Dependence.{reads, reads_step, lets_reading, lets_reading_after, leads, leads_by, feeds_through, feeds}
 use Rattle.task_graph.specs.Laws.{Agree}
 use Rattle.task_graph.proofs.Trees.{map-map}
-use Rattle.task_graph.proofs.Ways.{any_of}
+use Rattle.rcp_base.proofs.SearchLaws.{any_of}
 
 -- lets have the same value where the cells that they read agree
 abbrev LetsAgree : (ℕ → List Bool) → List ℤ → List ℤ → List ℤ → List ℤ → Type 0

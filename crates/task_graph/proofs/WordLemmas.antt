@@ -11,12 +11,15 @@ use Rattle.rcp_model.specs.declared.plan.SlotRow.{SlotRow}
 use Rattle.rcp_model.specs.declared.plan.PlanParts.{PlanParts}
 use Rattle.rcp_model.specs.Task.{written}
 use Rattle.rcp_model.specs.Slot.{no_task, no_slot, numbered, slot_count}
-use Rattle.task_graph.specs.Dependence.{any_below, leads, feeds_through, feeds}
-use Rattle.task_graph.specs.Masks.{has_bit, mask_if, let_masks, mask_by, task_row, task_rows, union_below, word_before, word_over, slot_words, plan_words}
+use Rattle.rcp_base.specs.Search.{any_below}
+use Rattle.rcp_model.specs.Dependence.{leads, feeds_through, feeds}
+use Rattle.rcp_base.specs.Bits.{has_bit}
+use Rattle.task_graph.specs.Masks.{mask_if, let_masks, mask_by, task_row, task_rows, union_below, word_before, word_over, slot_words, plan_words}
 use Rattle.task_graph.specs.Rows.{Rows, needs_in, IsDependenceOf}
-use Rattle.task_graph.proofs.BitLemmas.{has_bit_or, has_bit_zero, has_bit_if, has_bit_of}
+use Rattle.rcp_base.proofs.BitLaws.{has_bit_or, has_bit_zero}
+use Rattle.task_graph.proofs.BitLemmas.{has_bit_if, has_bit_of}
 use Rattle.task_graph.proofs.MaskLemmas.{row_leads}
-use Rattle.task_graph.proofs.Ways.{any_more, any_same, any_of, any_found, both_or_none}
+use Rattle.rcp_base.proofs.SearchLaws.{any_more, any_same, any_of, any_found, both_or_none}
 
 -- the word is of the cells that feed the cell over these tasks
 abbrev FeedsWord : ℕ → List Task → ℕ → ℕ → Type 0
@@ -59,8 +62,8 @@ through_none cells rest from to below = both_or_none (feeds_through cells rest f
     (λ h. any_of cells (λ x. eqb from x && feeds_through cells rest x to) from below (and_from (eqb from from) (feeds_through cells rest from to) (eq-eqb from from refl) h))
     (λ h.
     let p = any_found cells (λ x. eqb from x && feeds_through cells rest x to) h in
-    let both = and_parts (eqb from p.number) (feeds_through cells rest p.number to) p.holds in
-    ap (λ x. feeds_through cells rest x to) (eqb-true from p.number both.0) ∙ both.1)
+    let both = and_parts (eqb from p.v) (feeds_through cells rest p.v to) p.passes in
+    ap (λ x. feeds_through cells rest x to) (eqb-true from p.v both.0) ∙ both.1)
 
 -- the word in front of one task more
 step_back :

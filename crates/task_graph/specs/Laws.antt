@@ -3,7 +3,7 @@ use Rattle.std.specs.Prelude.{ℕ, ◌<◌, ◌≡◌, ◌↔◌, true, ℤ, pos
 use Rattle.rcp_model.specs.declared.task.Task.{Task}
 use Rattle.rcp_model.specs.declared.plan.PlanParts.{PlanParts}
 use Rattle.rcp_model.specs.Slot.{cells_after_slot}
-use Rattle.task_graph.specs.Dependence.{feeds, feeds_through, FeedsThrough}
+use Rattle.rcp_model.specs.Dependence.{feeds, feeds_through, FeedsThrough}
 
 -- two lists of cells have the same value at a cell
 abbrev pub Agree : List ℤ → List ℤ → ℕ → Type 0

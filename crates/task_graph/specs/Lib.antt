@@ -1,4 +1,3 @@
-pub mod Dependence
 pub mod Laws
 pub mod Masks
 pub mod Rows

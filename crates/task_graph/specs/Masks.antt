@@ -1,8 +1,8 @@
 -- Words as sets of cells: what an expression reads, and what leads to a cell over a task and over the tasks of a slot.
 -- This project's own.
-use Rattle.std.specs.Prelude.{ℕ, ◌==◌, ◌^◌, zero, suc, Bool, nat_lt, length, List, [], ◌∷◌, ◌++◌, map, slice_index_or, Option, Some, None, if◌then◌else◌}
-use Rattle.std.specs.Int.{bit_at}
+use Rattle.std.specs.Prelude.{ℕ, ◌^◌, zero, suc, Bool, nat_lt, length, List, [], ◌∷◌, ◌++◌, map, slice_index_or, Option, Some, None, if◌then◌else◌}
 use Rattle.std.specs.Int.Bits.{bit_or}
+use Rattle.rcp_base.specs.Bits.{has_bit}
 use Rattle.rcp_base.specs.Tables.{table}
 use Rattle.rcp_model.specs.declared.expr.Expr.{Expr, fold-Expr}
 use Rattle.rcp_model.specs.declared.expr.Expr.TheOpen.{Expr-F}
@@ -10,10 +10,6 @@ use Rattle.rcp_model.specs.declared.task.LetRow.{LetRow}
 use Rattle.rcp_model.specs.declared.task.Task.{Task}
 use Rattle.rcp_model.specs.declared.plan.SlotRow.{SlotRow}
 use Rattle.rcp_model.specs.Task.{written}
-
--- the number is in the word
-abbrev pub has_bit : ℕ → ℕ → Bool
-has_bit word i = bit_at word i == 1
 
 -- the word of one cell, and of none where a word has no room for it
 abbrev pub bit_of : ℕ → ℕ

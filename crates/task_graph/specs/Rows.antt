@@ -1,9 +1,9 @@
 -- Which cells each cell needs in each slot, as one word each. This project's own.
-use Rattle.std.specs.Prelude.{ℕ, ◌<◌, ◌+◌, ◌*◌, ◌≡◌, Bool, ◌&&◌, nat_lt, List, length, slice_index_or}
+use Rattle.std.specs.Prelude.{ℕ, ◌<◌, ◌+◌, ◌*◌, ◌≡◌, Bool, ◌&&◌, nat_lt, List, slice_index_or}
+use Rattle.rcp_base.specs.Bits.{has_bit}
 use Rattle.rcp_model.specs.declared.plan.PlanParts.{PlanParts}
-use Rattle.rcp_model.specs.Slot.{slot_count}
-use Rattle.task_graph.specs.Dependence.{feeds}
-use Rattle.task_graph.specs.Masks.{has_bit}
+use Rattle.rcp_model.specs.PlanGraph.{graph_of_plan}
+use Rattle.rcp_model.specs.Walk.{Graph}
 
 -- by slot and then by cell, a word of the cells that feed it
 pub record Rows : Type 0 where
@@ -20,10 +20,13 @@ needs_in rows slot cell from =
 abbrev pub AreNeeds : Rows → ℕ → ℕ → ℕ → Type 0
 AreNeeds rows slot cell word = (from : ℕ) → from < rows.cells → has_bit word from ≡ needs_in rows slot cell from
 
--- the rows say of each slot which cell feeds which
-pub record IsDependenceOf (plan : PlanParts) (rows : Rows) : Type 0 where
-  pub slots : rows.slots ≡ slot_count plan
-  pub cells : rows.cells ≡ length plan.cells
+-- the rows say of each slot of a graph which cell feeds which
+pub record AreFeedsOf (g : Graph) (rows : Rows) : Type 0 where
+  pub slots : rows.slots ≡ g.slots
+  pub cells : rows.cells ≡ g.cells
   pub needs :
-      (slot cell from : ℕ) → slot < slot_count plan → cell < length plan.cells → from < length plan.cells
-      → needs_in rows slot cell from ≡ feeds plan slot from cell
+      (slot cell from : ℕ) → slot < g.slots → cell < g.cells → from < g.cells → needs_in rows slot cell from ≡ g.feeds slot from cell
+
+-- they say so of a plan
+abbrev pub IsDependenceOf : PlanParts → Rows → Type 0
+IsDependenceOf plan rows = AreFeedsOf (graph_of_plan plan) rows

@@ -1,13 +1,16 @@
-//! Words as sets of numbers below 64.
+//! Words as sets of cells.
 //! This project's own.
 ghost use Rattle.std.specs.Prelude.{◌≡◌};
+ghost use Rattle.rcp_base.specs.Bits.{has_bit};
 ghost use Rattle.task_graph.specs.Masks as spec;
 
-/// The number is in the word.
-pub fn has_bit(word: u64, i: usize) -> bool
-    ensures { result ≡ spec.has_bit word i }
+use rcp_base::bits;
+
+/// Whether the word has the cell; it has none past its last bit.
+pub fn has_cell(word: u64, cell: usize) -> bool
+    ensures { result ≡ has_bit word cell }
 {
-    i < 64 && word & (1 << i) != 0
+    cell < 64 && bits::has_bit(word, cell as u32)
 }
 
 /// The word of one cell, and of none where a word has no room for it.

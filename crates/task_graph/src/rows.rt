@@ -3,7 +3,7 @@
 ghost use Rattle.std.specs.Prelude.{◌≡◌, ◌<◌, ◌≤◌, length, IfOk};
 ghost use Rattle.task_graph.specs.Rows.{AreNeeds, needs_in, IsDependenceOf};
 
-use crate::bits::has_bit;
+use crate::bits::has_cell;
 use crate::masks::task_rows;
 use crate::words::plan_words;
 use rcp_base::Memory;
@@ -77,7 +77,7 @@ impl DepRows {
         ensures { result ≡ needs_in self.now slot cell from }
     {
         let word = self.words[slot as usize * self.cells as usize + cell as usize];
-        has_bit(word, from as usize)
+        has_cell(word, from as usize)
     }
 }
 

@@ -3,7 +3,7 @@
 ghost use Rattle.std.specs.Prelude.{◌≡◌, ◌++◌, length, IfOk, OnOk};
 ghost use Rattle.task_graph.specs.Masks as spec;
 
-use crate::bits::{bit_of, has_bit, mask_if};
+use crate::bits::{bit_of, has_cell, mask_if};
 use rcp_base::{List, Memory};
 use rcp_model::SlotRow;
 use std::alloc::Global;
@@ -14,7 +14,7 @@ fn union_of(row: &[u64], word: u64) -> u64
 {
     let mut union = 0;
     for (to, mask) in row.iter().enumerate() {
-        union |= mask_if(has_bit(word, to), *mask);
+        union |= mask_if(has_cell(word, to), *mask);
     }
     union
 }

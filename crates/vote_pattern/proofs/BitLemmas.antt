@@ -1,60 +1,17 @@
--- Words as sets of small numbers: one number more or less, and how many there are.
-use Rattle.std.proofs.Common.{◌≡◌, ℕ, zero, suc, ◌+◌, ◌-◌, ◌*◌, ◌%◌, ◌^◌, ◌<◌, ◌≤◌, min, Bool, true, false, cond, not, eqb, List, [], ◌∷◌, ◌++◌, length, map, inl, inr, refl, sym, ◌∙◌, ap, arith, add-one, add-zero, zero-mul, w64}
-use Rattle.std.proofs.lemmas.Bool.{cases_lt, eq-eqb, ne_eqb}
+-- How many numbers a word has.
+use Rattle.std.proofs.Common.{◌≡◌, ℕ, zero, suc, ◌+◌, ◌-◌, ◌^◌, ◌<◌, ◌≤◌, Bool, false, cond, eqb, List, [], ◌∷◌, ◌++◌, length, map, inl, inr, refl, sym, ◌∙◌, ap, arith, add-one, add-zero}
+use Rattle.std.proofs.lemmas.Bool.{cases_lt}
 use Rattle.std.proofs.lemmas.List.{map-id, get_or_past}
 use Rattle.std.proofs.lemmas.List.FromFn.{length-range_with_len, length-map-range_with_len, get_or-map-range_with_len, map-range_with_len_more}
 use Rattle.std.proofs.lemmas.List.Sums.{sum_by_push, count_by-le-length}
-use Rattle.std.proofs.lemmas.Nat.{one_shl, pow_pos}
-use Rattle.std.proofs.lemmas.Nat.Bits.{and_pow, bit_at_and, bit_at-lt, bit_at-zero, bit_at_above, bit_at_set_same, bit_at_set_other, bit_at_clear_same, bit_at_clear_other, same_from_bits}
+use Rattle.std.proofs.lemmas.Nat.Bits.{bit_at-lt, bit_at_above, same_from_bits}
 use Rattle.std.proofs.lemmas.Simd.{bit_mask_l, ones-mask_l}
 use lib.Lanes.{mask_l}
-use Rattle.std.specs.Prelude.{bit_and, bit_or, count_ones}
-use Rattle.std.specs.Int.{bit_at, bit_not}
+use Rattle.std.specs.Prelude.{count_ones}
+use Rattle.std.specs.Int.{bit_at}
 use Rattle.std.specs.List.{range_with_len, sum_by, count_by}
-use Rattle.vote_pattern.specs.Bits.{has_bit, number_count, WritesBit}
-
-pub has_bit_zero : (number : ℕ) → has_bit 0 number ≡ false
-has_bit_zero number = ap (λ (x : ℕ). eqb x 1) (bit_at-zero number)
-
-bit_test : (b p : ℕ) → b < 2 → 0 < p → not (eqb (b * p) 0) ≡ eqb b 1
-bit_test zero p h pos = ap (λ (x : ℕ). not (eqb x 0)) (zero-mul p)
-bit_test (suc zero) p h pos =
-    let e : 1 * p ≡ p = omega arith in
-    let ne : p ≡ 0 → ⊥ = λ z. omega arith in
-    ap (λ (x : ℕ). not (eqb x 0)) e ∙ ap not (ne_eqb p 0 ne)
-bit_test (suc (suc b)) p h pos = absurd (omega arith)
-
--- the test of one bit
-pub and_one_bit : (w i : ℕ) → i < 64 → not (eqb (bit_and w (1 * 2 ^ i % 2 ^ 64)) 0) ≡ has_bit w i
-and_one_bit w i h =
-    let one : 1 * 2 ^ i % 2 ^ 64 ≡ 2 ^ i = one_shl i 64 h in
-    let pos = pow_pos i in
-    ap (λ (x : ℕ). not (eqb (bit_and w x) 0)) one ∙ ap (λ (x : ℕ). not (eqb x 0)) (and_pow w i)
-    ∙ bit_test (bit_at w i) (2 ^ i) (bit_at-lt w i) pos
-
--- a number put in
-pub puts_in : (w i : ℕ) → i < 64 → WritesBit w (bit_or w (1 * 2 ^ i % 2 ^ 64)) i true
-puts_in w i h = record {
-  here = eq-eqb _ _ (bit_at_set_same w64 w i h);
-  others = λ j ne. ap (λ (x : ℕ). eqb x 1) (bit_at_set_other w64 w i h j ne);
-}
-
--- a bit past the last is in no part of the word
-past_and : (w m i : ℕ) → w < 2 ^ 64 → 64 ≤ i → bit_at (bit_and w m) i ≡ bit_at w i
-past_and w m i fits past =
-    let none : bit_at w i ≡ 0 = bit_at_above w 64 i fits past in
-    let both : bit_at (bit_and w m) i ≡ min (bit_at w i) (bit_at m i) = bit_at_and w m i in
-    omega arith
-
--- a number taken out
-pub takes_out : (w i : ℕ) → w < 2 ^ 64 → i < 64 → WritesBit w (bit_and w (bit_not w64 (1 * 2 ^ i % 2 ^ 64))) i false
-takes_out w i fits h = record {
-  here = ap (λ (x : ℕ). eqb x 1) (bit_at_clear_same w64 w i h);
-  others = λ j ne. elim (cases_lt j 64) [
-    | inl a ↦ ap (λ (x : ℕ). eqb x 1) (bit_at_clear_other w64 w i h j a ne)
-    | inr a ↦ ap (λ (x : ℕ). eqb x 1) (past_and w _ j fits a)
-  ];
-}
+use Rattle.rcp_base.specs.Bits.{has_bit}
+use Rattle.vote_pattern.specs.Bits.{number_count}
 
 range_more : (n : ℕ) → range_with_len 0 (n + 1) ≡ range_with_len 0 n ++ n ∷ []
 range_more n = sym (map-id _) ∙ map-range_with_len_more (λ (x : ℕ). x) 0 n n (omega arith) ∙ ap (λ (xs : List ℕ). xs ++ n ∷ []) (map-id _)

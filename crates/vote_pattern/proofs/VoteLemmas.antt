@@ -9,10 +9,12 @@ use Rattle.rcp_model.specs.declared.plan.SlotRow.{SlotRow}
 use Rattle.rcp_model.specs.declared.plan.PlanParts.{PlanParts}
 use Rattle.rcp_model.specs.Slot.{no_slot}
 use Rattle.rcp_model.specs.Messages.{is_voted}
-use Rattle.vote_pattern.specs.Bits.{has_bit, number_count, WritesBit, AreBitsOf}
+use Rattle.rcp_base.specs.Bits.{has_bit, WritesBit}
+use Rattle.vote_pattern.specs.Bits.{number_count, AreBitsOf}
 use Rattle.vote_pattern.specs.Votes.{Votes, word_at, is_in, votes_at, vote_count, no_votes, Writes, IsPatternOf, AreVotesOver}
 use Rattle.vote_pattern.specs.PatternFields.{AreWords}
-use Rattle.vote_pattern.proofs.BitLemmas.{has_bit_zero, none_past, same_sums, sum_more}
+use Rattle.rcp_base.proofs.BitLaws.{has_bit_zero}
+use Rattle.vote_pattern.proofs.BitLemmas.{none_past, same_sums, sum_more}
 
 -- within the sizes a vote is a bit
 pub is_bit : (votes : Votes) (slot cell : ℕ) → slot < votes.slots → cell < votes.cells → is_in votes slot cell ≡ has_bit (word_at votes slot) cell

@@ -1,7 +1,7 @@
 -- What the fields of a pattern say together. This project's own.
 use Rattle.std.specs.Prelude.{◌≡◌, ℕ, ◌≤◌, false, length}
 use Rattle.vote_pattern.specs.declared.pattern.Pattern.TheInside.{Inside}
-use Rattle.vote_pattern.specs.Bits.{has_bit}
+use Rattle.rcp_base.specs.Bits.{has_bit}
 use Rattle.vote_pattern.specs.Votes.{Votes, word_at}
 
 -- the votes that the fields hold

@@ -1,11 +1,11 @@
 -- A vote pattern: which cells are voted in each slot. After NASA TM-102716; the words are this project's own.
 use Rattle.std.specs.Prelude.{◌≡◌, ◌≢◌, ℕ, ◌<◌, ◌&&◌, nat_lt, Bool, List, length, slice_index_or, replicate, All}
 use Rattle.std.specs.List.{filter, range_with_len, sum_by}
+use Rattle.rcp_base.specs.Bits.{has_bit}
 use Rattle.rcp_model.specs.declared.plan.SlotRow.{SlotRow}
 use Rattle.rcp_model.specs.declared.plan.PlanParts.{PlanParts}
-use Rattle.rcp_model.specs.Slot.{slot_count}
-use Rattle.rcp_model.specs.Messages.{is_voted}
-use Rattle.vote_pattern.specs.Bits.{has_bit}
+use Rattle.rcp_model.specs.PlanGraph.{graph_of_plan}
+use Rattle.rcp_model.specs.Walk.{Graph}
 
 -- so many slots and cells, and for each slot a word whose bits are the cells that it votes
 pub record Votes : Type 0 where
@@ -41,11 +41,15 @@ pub record Writes (old new : Votes) (slot cell : ℕ) (value : Bool) : Type 0 wh
   pub other_cells : (other : ℕ) → other ≢ cell → is_in new slot other ≡ is_in old slot other
   pub other_slots : (other some : ℕ) → other ≢ slot → is_in new other some ≡ is_in old other some
 
--- the votes are those of the plan
-pub record IsPatternOf (plan : PlanParts) (votes : Votes) : Type 0 where
-  pub slots : votes.slots ≡ slot_count plan
-  pub cells : votes.cells ≡ length plan.cells
-  pub each : (slot cell : ℕ) → slot < slot_count plan → cell < length plan.cells → is_in votes slot cell ≡ is_voted plan slot cell
+-- the votes are those of the graph
+pub record AreVotesOf (g : Graph) (votes : Votes) : Type 0 where
+  pub slots : votes.slots ≡ g.slots
+  pub cells : votes.cells ≡ g.cells
+  pub each : (slot cell : ℕ) → slot < g.slots → cell < g.cells → is_in votes slot cell ≡ g.votes slot cell
+
+-- they are those of a plan
+abbrev pub IsPatternOf : PlanParts → Votes → Type 0
+IsPatternOf plan votes = AreVotesOf (graph_of_plan plan) votes
 
 -- the slots vote none but the first so many cells
 abbrev pub AreVotesOver : ℕ → List SlotRow → Type 0

@@ -5,8 +5,9 @@ ghost use Rattle.rcp_model.specs.declared.plan.PlanParts.{PlanParts};
 ghost use Rattle.vote_pattern.specs.Bits.{AreBitsOf};
 ghost use Rattle.vote_pattern.specs.Votes.{AreVotesOver, IsPatternOf, Writes, is_in, no_votes, vote_count};
 
-use crate::bits;
+use crate::bits::count;
 use rcp_base::Memory;
+use rcp_base::bits::{has_bit, with_bit, without_bit};
 use rcp_model::{Plan, PlanParts};
 use std::alloc::Global;
 use std::marker::Model;
@@ -73,7 +74,7 @@ impl Pattern {
     pub fn count(&self) -> u32
         ensures { result ≡ vote_count self.now }
     {
-        bits::count(self.words.as_slice())
+        count(self.words.as_slice())
     }
 
     /// Whether the slot votes the cell.
@@ -82,7 +83,7 @@ impl Pattern {
         requires cell { cell < self.now.cells }
         ensures { result ≡ is_in self.now slot cell }
     {
-        bits::has_bit(self.words[slot as usize], cell)
+        has_bit(self.words[slot as usize], cell)
     }
 
     /// Lets the slot vote the cell. Takes no memory.
@@ -92,7 +93,7 @@ impl Pattern {
         ensures { Writes self.old self.new slot cell true }
     {
         let word = self.words[slot as usize];
-        self.words[slot as usize] = bits::with_bit(word, cell);
+        self.words[slot as usize] = with_bit(word, cell);
     }
 
     /// Takes the slot's vote of the cell away. Takes no memory.
@@ -102,7 +103,7 @@ impl Pattern {
         ensures { Writes self.old self.new slot cell false }
     {
         let word = self.words[slot as usize];
-        self.words[slot as usize] = bits::without_bit(word, cell);
+        self.words[slot as usize] = without_bit(word, cell);
     }
 }
 
@@ -131,7 +132,7 @@ fn word_of(numbers: &[u16]) -> u64
 {
     let mut word = 0;
     for number in numbers {
-        word = bits::with_bit(word, u32::from(*number));
+        word = with_bit(word, u32::from(*number));
     }
     word
 }

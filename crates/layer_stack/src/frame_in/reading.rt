@@ -95,7 +95,7 @@ impl FrameIn {
         self.drops[from as usize * self.replicas + to as usize]
     }
 
-    /// How far the replica's clock is ahead, in ticks.
+    /// How late the replica's clock is, in ticks.
     #[tactic(auto, unfolding(rcp_model::specs::FrameRows::skew_of))]
     pub fn skew(&self, replica: u32) -> i64
         requires { replica < self.now.replicas }

@@ -105,7 +105,7 @@ impl FrameIn {
         self.written = true;
     }
 
-    /// Sets how far a replica's clock is ahead in this frame, in ticks.
+    /// Sets how late a replica's clock is in this frame, in ticks.
     #[tactic(auto, unfolding(rcp_model::specs::FrameRows::with_skew))]
     pub fn set_skew(&mut self, replica: u32, ticks: i64)
         requires { replica < self.old.replicas }

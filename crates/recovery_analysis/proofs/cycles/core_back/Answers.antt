@@ -1,8 +1,9 @@
 use Rattle.std.proofs.Common.{◌≡◌, ℕ, true, ap, sym, ◌∙◌, subst}
 use Rattle.recovery_analysis.specs.Graphs.{graph_of}
-use Rattle.recovery_analysis.specs.Walk.{node_count}
-use Rattle.recovery_analysis.specs.Levels.{node_of, goes, is_core}
-use Rattle.recovery_analysis.specs.Search.{some_below, first_below}
+use Rattle.rcp_model.specs.Walk.{node_count}
+use Rattle.rcp_model.specs.Levels.{node_of, goes}
+use Rattle.recovery_analysis.specs.Levels.{is_core}
+use Rattle.rcp_base.specs.Search.{any_below, first_below}
 use Rattle.recovery_analysis.proofs.LevelLemmas.{level_unvoted}
 use Rattle.recovery_analysis.proofs.CoreLemmas.{core_some, back_node-is, back_core}
 use Rattle.recovery_analysis.proofs.cycles.core_back.Goals as goal
@@ -16,7 +17,7 @@ back-requires-clause-node c =
 pub back-requires-clause-some : goal.back-requires-clause-some
 back-requires-clause-some c =
     let g = graph_of c.args.rows.now c.args.pattern.now in
-    subst (λ (x : ℕ). some_below (node_count g) (goes g x c.args.node) ≡ true) (sym c.node_count.ensures.value) (core_some g c.args.node c.requires.node)
+    subst (λ (x : ℕ). any_below (node_count g) (goes g x c.args.node) ≡ true) (sym c.node_count.ensures.value) (core_some g c.args.node c.requires.node)
 
 pub returns-clause-value : goal.returns-clause-value
 returns-clause-value c =

@@ -1,7 +1,8 @@
 use Rattle.std.proofs.Common.{◌≡◌, ◌+◌, ℕ, suc, reverse, ap, sym, ◌∙◌, subst, arith, refl}
 use Rattle.recovery_analysis.specs.Graphs.{graph_of}
-use Rattle.recovery_analysis.specs.Levels.{back_node, is_core, back_times}
-use Rattle.recovery_analysis.specs.Witness.{IsWitnessCycle}
+use Rattle.rcp_model.specs.Shown.{back_node}
+use Rattle.recovery_analysis.specs.Levels.{is_core, back_times}
+use Rattle.rcp_model.specs.Witness.{IsWitnessCycle}
 use Rattle.recovery_analysis.proofs.OrderLemmas.{same_node, other_node}
 use Rattle.recovery_analysis.proofs.GatherLemmas.{NotAgain, comes, gathered_nodes, gathered_more, not_again_more, gathered, around_core}
 use Rattle.recovery_analysis.proofs.cycles.gather.Goals as goal

@@ -1,7 +1,8 @@
 use Rattle.std.proofs.Common.{◌+◌, suc, ap, ◌∙◌, arith}
 use Rattle.recovery_analysis.specs.Graphs.{graph_of}
-use Rattle.recovery_analysis.specs.Walk.{node_count}
-use Rattle.recovery_analysis.specs.Levels.{back_node, is_core}
+use Rattle.rcp_model.specs.Walk.{node_count}
+use Rattle.rcp_model.specs.Shown.{back_node}
+use Rattle.recovery_analysis.specs.Levels.{is_core}
 use Rattle.recovery_analysis.proofs.CoreLemmas.{path_at, path_core}
 use Rattle.recovery_analysis.proofs.cycles.reached.Goals as goal
 

@@ -1,6 +1,6 @@
 use Rattle.std.proofs.Common.{◌≡◌}
 use Rattle.recovery_analysis.specs.Graphs.{graph_of}
-use Rattle.recovery_analysis.specs.Levels.{path}
+use Rattle.rcp_model.specs.Shown.{path}
 use Rattle.recovery_analysis.proofs.cycles.reached.Given as goal
 
 abbrev pub invariant-loop-i : goal.invariant-loop-i

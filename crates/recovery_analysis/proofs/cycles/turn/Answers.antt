@@ -1,8 +1,10 @@
 use Rattle.std.proofs.Common.{sym, ◌≡◌, ◌+◌, ℕ, suc, inl, inr, ap, ◌∙◌, subst, arith}
 use Rattle.recovery_analysis.specs.Graphs.{graph_of}
-use Rattle.recovery_analysis.specs.Walk.{node_count}
-use Rattle.recovery_analysis.specs.Levels.{path, back_node, is_core}
-use Rattle.recovery_analysis.specs.Around.{period_of, TurnSoFar}
+use Rattle.rcp_model.specs.Walk.{node_count}
+use Rattle.rcp_model.specs.Shown.{path, back_node}
+use Rattle.recovery_analysis.specs.Levels.{is_core}
+use Rattle.rcp_model.specs.Shown.{period_of}
+use Rattle.recovery_analysis.specs.Around.{TurnSoFar}
 use Rattle.recovery_analysis.proofs.OrderLemmas.{before, not_before}
 use Rattle.recovery_analysis.proofs.LevelLemmas.{level_unvoted}
 use Rattle.recovery_analysis.proofs.CoreLemmas.{path_at, path_core}

@@ -1,8 +1,9 @@
 use Rattle.std.proofs.Common.{◌≡◌, ◌+◌}
 use Rattle.recovery_analysis.specs.Graphs.{graph_of}
-use Rattle.recovery_analysis.specs.Walk.{node_count}
-use Rattle.recovery_analysis.specs.Levels.{path}
-use Rattle.recovery_analysis.specs.Around.{period_of, TurnSoFar}
+use Rattle.rcp_model.specs.Walk.{node_count}
+use Rattle.rcp_model.specs.Shown.{path}
+use Rattle.rcp_model.specs.Shown.{period_of}
+use Rattle.recovery_analysis.specs.Around.{TurnSoFar}
 use Rattle.recovery_analysis.proofs.cycles.turn.Given as goal
 
 abbrev pub invariant-loop-i : goal.invariant-loop-i

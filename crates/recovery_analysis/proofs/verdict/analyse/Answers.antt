@@ -1,10 +1,10 @@
 use Rattle.std.proofs.Common.{◌+◌, arith}
 use Rattle.recovery_analysis.specs.declared.verdict.Verdict.TheVariants.{Recovers, Cycle}
 use Rattle.recovery_analysis.specs.Graphs.{graph_of}
-use Rattle.recovery_analysis.specs.Walk.{node_count}
+use Rattle.rcp_model.specs.Walk.{node_count}
 use Rattle.recovery_analysis.proofs.CycleLemmas.{witness_is_cycle}
 use Rattle.recovery_analysis.proofs.WalkLemmas.{recovery_of}
-use Rattle.recovery_analysis.proofs.TransferLemmas.{verdict_of_plan}
+use Rattle.recovery_analysis.proofs.ShownLemmas.{verdict_of_graphs}
 use Rattle.recovery_analysis.proofs.verdict.analyse.Goals as goal
 
 pub cycle_of-requires-clause-core : goal.cycle_of-requires-clause-core
@@ -17,9 +17,9 @@ returns-clause-verdict c =
     let g = graph_of c.args.rows.now c.args.pattern.now in
     record { cycle = witness_is_cycle g c.in_ok-nodes.nodes c.in_ok-nodes.ensures; witness = c.in_ok-nodes.ensures }
 
-pub returns-clause-plan : goal.returns-clause-plan
-returns-clause-plan c =
-    λ plan. verdict_of_plan plan c.args.rows.now c.args.pattern.now (Cycle c.in_ok-nodes.nodes) (returns-clause-verdict c)
+pub returns-clause-graph : goal.returns-clause-graph
+returns-clause-graph c =
+    verdict_of_graphs c.args.rows.now c.args.pattern.now (Cycle c.in_ok-nodes.nodes) (returns-clause-verdict c)
 
 pub returns-in-None-clause-verdict : goal.returns-in-None-clause-verdict
 returns-in-None-clause-verdict c =
@@ -27,6 +27,6 @@ returns-in-None-clause-verdict c =
     let w = c.in_ok-walk-in-None.ensures in
     recovery_of g c.loop-depth.depth c.in_ok-walk-in-None.walk c.loop-depth.invariant.some c.in-None.ensures w.long w.walk
 
-pub returns-in-None-clause-plan : goal.returns-in-None-clause-plan
-returns-in-None-clause-plan c =
-    λ plan. verdict_of_plan plan c.args.rows.now c.args.pattern.now (Recovers (c.loop-depth.depth + 1) c.in_ok-walk-in-None.walk) (returns-in-None-clause-verdict c)
+pub returns-in-None-clause-graph : goal.returns-in-None-clause-graph
+returns-in-None-clause-graph c =
+    verdict_of_graphs c.args.rows.now c.args.pattern.now (Recovers (c.loop-depth.depth + 1) c.in_ok-walk-in-None.walk) (returns-in-None-clause-verdict c)

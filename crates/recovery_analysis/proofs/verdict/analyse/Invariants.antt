@@ -1,6 +1,8 @@
 use Rattle.std.proofs.Common.{◌≡◌, ◌*◌, ◌-◌, ◌<◌, ℕ, true, vec_len}
 use Rattle.recovery_analysis.specs.Graphs.{graph_of}
-use Rattle.recovery_analysis.specs.Levels.{AreWords, walk_node, has_level_node}
+use Rattle.recovery_analysis.specs.Levels.{AreWords}
+use Rattle.rcp_model.specs.Shown.{walk_node}
+use Rattle.rcp_model.specs.Levels.{has_level_node}
 use Rattle.recovery_analysis.proofs.verdict.analyse.Given as goal
 
 abbrev pub invariant-loop-depth : goal.invariant-loop-depth

@@ -1,7 +1,7 @@
 use Rattle.std.proofs.Common.{◌≡◌}
 use Rattle.recovery_analysis.specs.Graphs.{graph_of}
-use Rattle.recovery_analysis.specs.Levels.{walk_node}
-use Rattle.recovery_analysis.proofs.WalkLemmas.{walk_nodes}
+use Rattle.rcp_model.specs.Shown.{walk_node}
+use Rattle.rcp_model.specs.Shown.{walk_nodes}
 use Rattle.recovery_analysis.proofs.walks.walk_of.Given as goal
 
 abbrev pub invariant-loop-i : goal.invariant-loop-i

@@ -1,8 +1,8 @@
 -- Which of the unvoted cycles and walks are shown. After NASA TM-102716; the choice is this project's own.
 use Rattle.std.specs.Prelude.{◌≡◌, ◌≢◌, ℕ, ◌+◌, ◌-◌, ◌<◌, zero, suc, List, length}
-use Rattle.recovery_analysis.specs.declared.node.Node.{Node}
-use Rattle.recovery_analysis.specs.Node.{IsUpTo, IsLeast}
-use Rattle.recovery_analysis.specs.Walk.{Graph, node_count, StepsTo, at, EndsWalk}
+use Rattle.rcp_model.specs.declared.node.Node.{Node}
+use Rattle.rcp_model.specs.Node.{IsUpTo, IsLeast}
+use Rattle.rcp_model.specs.Walk.{Graph, node_count, StepsTo, at, EndsWalk}
 
 -- a node that ends an unvoted walk of more nodes than there are
 abbrev pub IsCore : Graph → Node → Type 0

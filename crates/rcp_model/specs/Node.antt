@@ -2,7 +2,7 @@
 use Rattle.std.specs.Prelude.{IsTrue}
 use Rattle.std.specs.declared.cmp.Ordering.{Ordering}
 use Rattle.std.specs.Ordering.{nat_cmp, ordering_then, is_le}
-use Rattle.recovery_analysis.specs.declared.node.Node.{Node}
+use Rattle.rcp_model.specs.declared.node.Node.{Node}
 
 -- by slot, then by cell
 abbrev pub node_cmp : Node → Node → Ordering

@@ -1,7 +1,7 @@
 -- Which cell feeds which in a slot: whose value before the slot can enter whose value behind it, by the names in the text.
 -- After NASA TM-102716; the rule is this project's own.
 use Rattle.std.specs.Prelude.{ℕ, ◌<◌, ◌≡◌, ◌==◌, Bool, false, IsTrue, ◌&&◌, ◌||◌, List, [], ◌∷◌, ◌++◌, length, slice_index_or, Option, Some, None}
-use Rattle.std.specs.List.{list_any, range_with_len}
+use Rattle.rcp_base.specs.Search.{any_below}
 use Rattle.rcp_model.specs.declared.expr.Expr.{Expr, fold-Expr}
 use Rattle.rcp_model.specs.declared.expr.Expr.TheOpen.{Expr-F}
 use Rattle.rcp_model.specs.declared.task.LetRow.{LetRow}
@@ -44,10 +44,6 @@ leads_by task from to (Some e) = reads from e (lets_reading from task)
 -- one cell leads to another over a task: the other is set by what reads the one, or it is the same cell and is not set
 unfoldable pub leads : Task → ℕ → ℕ → Bool
 leads task from to = leads_by task from to (written task to)
-
--- a test holds of some number below n
-abbrev pub any_below : ℕ → (ℕ → Bool) → Bool
-any_below n test = list_any test (range_with_len 0 n)
 
 -- one cell leads to another over tasks that run one after the other, through so many cells
 abbrev pub feeds_through : ℕ → List Task → ℕ → ℕ → Bool

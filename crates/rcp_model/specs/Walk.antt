@@ -1,6 +1,6 @@
 -- Unvoted walks and cycles: how a wrong value gets from cell to cell past all votes. After NASA TM-102716.
 use Rattle.std.specs.Prelude.{◌≡◌, ◌≢◌, ℕ, ◌+◌, ◌-◌, ◌*◌, ◌%◌, ◌<◌, Bool, false, List, length, slice_index_or, IsTrue}
-use Rattle.recovery_analysis.specs.declared.node.Node.{Node}
+use Rattle.rcp_model.specs.declared.node.Node.{Node}
 
 -- which cell feeds which in each slot (the slot, the one that feeds, the one that is fed), and what each slot votes
 pub record Graph : Type 0 where

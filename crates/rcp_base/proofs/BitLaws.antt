@@ -1,0 +1,85 @@
+-- Words as sets of small numbers: a test of one number, one number more or less, the first, and those of two words.
+use Rattle.std.proofs.Common.{max, min, ◌≡◌, ℕ, ◌*◌, ◌%◌, ◌^◌, ◌<◌, ◌≤◌, zero, suc, true, false, not, eqb, refl, ◌∙◌, ap, inl, inr, arith, zero-mul, w64}
+use Rattle.std.specs.Prelude.{bit_and, ◌||◌, ◌&&◌}
+use Rattle.std.specs.Int.{bit_at, bit_not, trailing_zeros}
+use Rattle.std.specs.Int.Bits.{bit_or}
+use Rattle.std.proofs.lemmas.Bool.{cases_lt, eq-eqb, ne_eqb}
+use Rattle.std.proofs.lemmas.Nat.{one_shl, pow_pos}
+use Rattle.std.proofs.lemmas.Nat.Bits.{and_pow, bit_at_and, bit_at_or, bit_at-lt, bit_at-zero, bit_at_above, bit_at_set_same, bit_at_set_other, bit_at_clear_same, bit_at_clear_other, bit_at-trailing_zeros}
+use Rattle.rcp_base.specs.Bits.{has_bit, WritesBit}
+use Rattle.rcp_base.specs.Search.{IsFirst}
+
+bit_test : (b p : ℕ) → b < 2 → 0 < p → not (eqb (b * p) 0) ≡ eqb b 1
+bit_test zero p h pos = ap (λ (x : ℕ). not (eqb x 0)) (zero-mul p)
+bit_test (suc zero) p h pos =
+    let e : 1 * p ≡ p = omega arith in
+    let ne : p ≡ 0 → ⊥ = λ z. omega arith in
+    ap (λ (x : ℕ). not (eqb x 0)) e ∙ ap not (ne_eqb p 0 ne)
+bit_test (suc (suc b)) p h pos = absurd (omega arith)
+
+-- the test of one number
+pub and_one_bit : (w i : ℕ) → i < 64 → not (eqb (bit_and w (1 * 2 ^ i % 2 ^ 64)) 0) ≡ has_bit w i
+and_one_bit w i h =
+    let one : 1 * 2 ^ i % 2 ^ 64 ≡ 2 ^ i = one_shl i 64 h in
+    let pos = pow_pos i in
+    ap (λ (x : ℕ). not (eqb (bit_and w x) 0)) one ∙ ap (λ (x : ℕ). not (eqb x 0)) (and_pow w i)
+    ∙ bit_test (bit_at w i) (2 ^ i) (bit_at-lt w i) pos
+
+-- a number put in
+pub puts_in : (w i : ℕ) → i < 64 → WritesBit w (bit_or w (1 * 2 ^ i % 2 ^ 64)) i true
+puts_in w i h = record {
+  here = eq-eqb _ _ (bit_at_set_same w64 w i h);
+  others = λ j ne. ap (λ (x : ℕ). eqb x 1) (bit_at_set_other w64 w i h j ne);
+}
+
+-- a number past the last is in no part of the word
+past_and : (w m i : ℕ) → w < 2 ^ 64 → 64 ≤ i → bit_at (bit_and w m) i ≡ bit_at w i
+past_and w m i fits past =
+    let none : bit_at w i ≡ 0 = bit_at_above w 64 i fits past in
+    let both : bit_at (bit_and w m) i ≡ min (bit_at w i) (bit_at m i) = bit_at_and w m i in
+    omega arith
+
+-- a number taken out
+pub takes_out : (w i : ℕ) → w < 2 ^ 64 → i < 64 → WritesBit w (bit_and w (bit_not w64 (1 * 2 ^ i % 2 ^ 64))) i false
+takes_out w i fits h = record {
+  here = ap (λ (x : ℕ). eqb x 1) (bit_at_clear_same w64 w i h);
+  others = λ j ne. elim (cases_lt j 64) [
+    | inl a ↦ ap (λ (x : ℕ). eqb x 1) (bit_at_clear_other w64 w i h j a ne)
+    | inr a ↦ ap (λ (x : ℕ). eqb x 1) (past_and w _ j fits a)
+  ];
+}
+
+pub first_of_word : (w : ℕ) → 0 < w → w < 2 ^ 64 → IsFirst 64 (has_bit w) (trailing_zeros w64 w)
+first_of_word w some fits =
+    let t = bit_at-trailing_zeros w64 w some fits in
+    record { below = t.0; passes = eq-eqb _ _ t.1; none = λ i l. ap (λ (x : ℕ). eqb x 1) (t.2 i l) }
+
+pub has_bit_zero : (i : ℕ) → has_bit 0 i ≡ false
+has_bit_zero i = ap (λ (x : ℕ). eqb x 1) (bit_at-zero i)
+
+pub no_bit_above : (w i : ℕ) → w < 2 ^ 64 → 64 ≤ i → has_bit w i ≡ false
+no_bit_above w i fits past = ap (λ (x : ℕ). eqb x 1) (bit_at_above w 64 i fits past)
+
+min_bit : (x y : ℕ) → x < 2 → y < 2 → eqb (min x y) 1 ≡ (eqb x 1 && eqb y 1)
+min_bit zero zero p q = refl
+min_bit zero (suc zero) p q = refl
+min_bit (suc zero) zero p q = refl
+min_bit (suc zero) (suc zero) p q = refl
+min_bit (suc (suc x)) y p q = absurd (omega arith)
+min_bit zero (suc (suc y)) p q = absurd (omega arith)
+min_bit (suc zero) (suc (suc y)) p q = absurd (omega arith)
+
+pub has_bit_and : (a b i : ℕ) → has_bit (bit_and a b) i ≡ (has_bit a i && has_bit b i)
+has_bit_and a b i = ap (λ (x : ℕ). eqb x 1) (bit_at_and a b i) ∙ min_bit (bit_at a i) (bit_at b i) (bit_at-lt a i) (bit_at-lt b i)
+
+max_bit : (x y : ℕ) → x < 2 → y < 2 → eqb (max x y) 1 ≡ (eqb x 1 || eqb y 1)
+max_bit zero zero p q = refl
+max_bit zero (suc zero) p q = refl
+max_bit (suc zero) zero p q = refl
+max_bit (suc zero) (suc zero) p q = refl
+max_bit (suc (suc x)) y p q = absurd (omega arith)
+max_bit zero (suc (suc y)) p q = absurd (omega arith)
+max_bit (suc zero) (suc (suc y)) p q = absurd (omega arith)
+
+pub has_bit_or : (a b i : ℕ) → has_bit (bit_or a b) i ≡ (has_bit a i || has_bit b i)
+has_bit_or a b i = ap (λ (x : ℕ). eqb x 1) (bit_at_or a b i) ∙ max_bit (bit_at a i) (bit_at b i) (bit_at-lt a i) (bit_at-lt b i)

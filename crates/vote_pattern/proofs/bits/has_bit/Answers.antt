@@ -1,5 +1,0 @@
-use Rattle.vote_pattern.proofs.BitLemmas.{and_one_bit}
-use Rattle.vote_pattern.proofs.bits.has_bit.Goals as goal
-
-pub returns : goal.returns
-returns c = and_one_bit c.args.word c.args.number c.requires

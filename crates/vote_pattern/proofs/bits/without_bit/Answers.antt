@@ -1,5 +1,0 @@
-use Rattle.vote_pattern.proofs.BitLemmas.{takes_out}
-use Rattle.vote_pattern.proofs.bits.without_bit.Goals as goal
-
-pub returns : goal.returns
-returns c = takes_out c.args.word c.args.number c.ranges.word.fits c.requires
