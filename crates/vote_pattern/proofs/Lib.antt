@@ -1,3 +1,4 @@
 pub mod BitLemmas
 pub mod VoteLemmas
 pub mod CountLemmas
+mod GraphLemmas

@@ -1,6 +1,8 @@
 -- What follows from the definitions of votes. This project's own.
 use Rattle.std.specs.Prelude.{◌≡◌, ℕ, ◌+◌, ◌<◌, Bool, if◌then◌else◌}
-use Rattle.vote_pattern.specs.Votes.{Votes, Writes, is_in, vote_count}
+use Rattle.rcp_model.specs.Walk.{Graph}
+use Rattle.rcp_model.specs.PlanGraph.{voted_at, voted_count}
+use Rattle.vote_pattern.specs.Votes.{Votes, Writes, AreVotesOf, is_in, votes_at, vote_count}
 
 -- one vote, or none
 abbrev pub one_if : Bool → ℕ
@@ -11,3 +13,11 @@ abbrev pub TheCountFollowsTheVotes : Type 0
 TheCountFollowsTheVotes =
     (old new : Votes) (slot cell : ℕ) (value : Bool) → slot < old.slots → cell < old.cells → Writes old new slot cell value
     → vote_count new + one_if (is_in old slot cell) ≡ vote_count old + one_if value
+
+-- votes of a graph are listed and counted as the graph's are
+pub record AreListedAlike (g : Graph) (votes : Votes) : Type 0 where
+  pub lists : (slot : ℕ) → slot < g.slots → votes_at votes slot ≡ voted_at g slot
+  pub count : vote_count votes ≡ voted_count g
+
+abbrev pub VotesOfAGraphAreListedAlike : Type 0
+VotesOfAGraphAreListedAlike = (g : Graph) (votes : Votes) → AreVotesOf g votes → AreListedAlike g votes

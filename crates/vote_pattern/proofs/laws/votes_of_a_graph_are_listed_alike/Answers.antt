@@ -1,0 +1,5 @@
+use Rattle.vote_pattern.proofs.GraphLemmas.{listed_alike}
+use Rattle.vote_pattern.proofs.laws.votes_of_a_graph_are_listed_alike.Goals as goal
+
+pub returns : goal.returns
+returns c = listed_alike
