@@ -1,5 +1,5 @@
 -- The text of the frames of a history, one frame at a time.
-use Rattle.std.proofs.Common.{◌≡◌, ℕ, ℤ, ◌+◌, ◌<◌, ◌≤◌, List, [], ◌∷◌, ◌++◌, length, take, drop, reverse, get_or, min, Option, refl, ap, ap₂, sym, ◌∙◌, subst, arith, append_assoc}
+use Rattle.std.proofs.Common.{◌≡◌, ℕ, ℤ, ◌+◌, ◌<◌, ◌≤◌, List, [], ◌∷◌, ◌++◌, length, take, drop, reverse, get_or, Option, refl, ap, sym, ◌∙◌, subst, arith, append_assoc}
 use Rattle.std.proofs.lemmas.List.{take_more, drop_more, drop_all, reverse-append, length-take-le, length-reverse}
 use Rattle.rcp_base.specs.Writing.{Progress}
 use Rattle.rcp_model.specs.declared.plan.PlanParts.{PlanParts}

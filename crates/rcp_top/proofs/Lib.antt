@@ -1,6 +1,8 @@
 mod FrameLemmas
 mod HistoryLemmas
+mod LineLemmas
 mod VoteLemmas
+mod CheckLemmas
 mod EndingLemmas
 mod SeenLemmas
 mod DecideLemmas

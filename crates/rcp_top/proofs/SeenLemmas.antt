@@ -1,15 +1,19 @@
 -- What is due over the files that were seen.
-use Rattle.std.proofs.Common.{◌≡◌, ℕ, List, Bool, true, false, cond, Option, Some, None, Ok, Err, refl, inl, inr, sym, ap, ◌∙◌, subst}
+use Rattle.std.proofs.Common.{◌≡◌, ◌⊎◌, ℕ, List, Bool, true, false, cond, Option, Some, None, Ok, Err, refl, inl, inr, sym, ap, ◌∙◌, subst}
+use Rattle.std.proofs.lemmas.Bool.{cases_Bool, cond-true, cond-false}
 use Rattle.std.proofs.lemmas.Slice.Eq.{bytes_eq-Decides}
 use Rattle.std.specs.Bool.{Decides}
 use Rattle.std.specs.Str.{bytes_eq}
 use Rattle.rcp_base.specs.Files.{Files}
+use Rattle.rcp_model.specs.Levels.{has_cycle}
+use Rattle.rcp_model.specs.PlanGraph.{graph_of_plan}
 use Rattle.rcp_model.specs.declared.plan.PlanParts.{PlanParts}
+use Rattle.task_file.specs.TaskFile.{task_file_verdict}
 use Rattle.task_file.specs.Verdict.{Verdict}
 use Rattle.rcp_top.specs.Ending.{IsSeen}
-use Rattle.rcp_top.specs.Outcome.{Outcome, of_plan, of_files, unreadable}
-use Rattle.rcp_top.specs.Seen.{IsOfFiles}
-use Rattle.task_file.specs.TaskFile.{task_file_verdict}
+use Rattle.rcp_top.specs.Forms.{Wanted}
+use Rattle.rcp_top.specs.Outcome.{Outcome, of_journal, of_good_plan, of_task_file, of_file, unreadable}
+use Rattle.rcp_top.specs.Seen.{IsDueOver}
 
 -- by whether two names are one
 by_names : {X : Type 0} (a b : List ℕ) → (bytes_eq a b ≡ true → a ≡ b → X) → (bytes_eq a b ≡ false → (a ≡ b → ⊥) → X) → X
@@ -31,14 +35,14 @@ seen_more held seen failed further more (inl is) = inl is
 seen_more held seen failed further more (inr fault) = inr (more fault.0, fault.1)
 
 -- the files with another content, or none, under a name
-with_seen : Files → List ℕ → Option (List ℕ) → Files
+pub with_seen : Files → List ℕ → Option (List ℕ) → Files
 with_seen files name seen other = cond (bytes_eq other name) seen (files other)
 
 unfolding_seen : (files : Files) (name : List ℕ) (seen : Option (List ℕ)) (other : List ℕ) → with_seen files name seen other ≡ cond (bytes_eq other name) seen (files other)
 unfolding with_seen
 unfolding_seen files name seen other = refl
 
-seen_there : (files : Files) (name : List ℕ) (seen : Option (List ℕ)) → with_seen files name seen name ≡ seen
+pub seen_there : (files : Files) (name : List ℕ) (seen : Option (List ℕ)) → with_seen files name seen name ≡ seen
 seen_there files name seen = unfolding_seen files name seen name ∙ ap (λ b. cond b seen (files name)) (is_itself name)
 
 seen_elsewhere : (files : Files) (name : List ℕ) (seen : Option (List ℕ)) (other : List ℕ) → (other ≡ name → ⊥) → with_seen files name seen other ≡ files other
@@ -56,72 +60,62 @@ each_seen files before failed name seen are is other =
     subst P (sym (unfolding_seen before name seen other ∙ ap (λ b. cond b seen (before other)) test)) (subst Q (sym same) is))
     (λ test differ. subst P (sym (seen_elsewhere before name seen other differ)) (are other))
 
--- the files that were seen, where this is due over them
-pub record SeenFiles (file journal : List ℕ) (files : Files) (failed : Type 0) (due : Outcome) : Type 0 where
-  pub seen : Files
-  pub are_seen : (name : List ℕ) → IsSeen (files name) failed (seen name)
-  pub is_due : due ≡ of_files file journal (seen file) (seen journal)
+-- the folder's own files were seen
+pub as_held : (files : Files) (failed : Type 0) (over : Files → Outcome) (due : Outcome) → due ≡ over files → IsDueOver files failed over due
+as_held files failed over due is = record { seen = files; are_seen = λ name. inl refl; is_due = is }
 
--- two names: each has what was seen of it
-seen_apart : (file journal : List ℕ) (files : Files) (failed : Type 0) (due : Outcome) → (journal ≡ file → ⊥)
-    → IsOfFiles file journal (files file) (files journal) failed due → SeenFiles file journal files failed due
-seen_apart file journal files failed due differ of =
-    let first : Files = with_seen files file of.file_seen in
-    let both : Files = with_seen first journal of.journal_seen in
-    let file_is : both file ≡ of.file_seen =
-    seen_elsewhere first journal of.journal_seen file (λ same. differ (sym same)) ∙ seen_there files file of.file_seen
-    in
-    record {
-      seen = both;
-      are_seen = each_seen files first failed journal of.journal_seen (each_seen files files failed file of.file_seen (λ name. inl refl) of.file_is_seen) of.journal_is_seen;
-      is_due =
-          of.is_due ∙ (ap (λ content. of_files file journal content of.journal_seen) (sym file_is)
-          ∙ ap (λ content. of_files file journal (both file) content) (sym (seen_there first journal of.journal_seen)));
-    }
-
--- one name that has nothing, since the folder failed
-seen_as_missing : (file journal : List ℕ) (files : Files) (failed : Type 0) (due : Outcome) → failed → due ≡ unreadable file → SeenFiles file journal files failed due
-seen_as_missing file journal files failed due fault is = record {
-  seen = with_seen files file None;
-  are_seen = each_seen files files failed file None (λ name. inl refl) (inr (fault, refl));
-  is_due = is ∙ ap (λ content. of_files file journal content (with_seen files file None journal)) (sym (seen_there files file None));
+-- none was seen under a name, since the folder failed
+pub as_missing : (files : Files) (failed : Type 0) (over : Files → Outcome) (due : Outcome) (name : List ℕ) → failed
+    → due ≡ over (with_seen files name None) → IsDueOver files failed over due
+as_missing files failed over due name fault is = record {
+  seen = with_seen files name None;
+  are_seen = each_seen files files failed name None (λ other. inl refl) (inr (fault, refl));
+  is_due = is;
 }
 
--- one name under which a file was read at first, and could not be read again
-seen_once : (name : List ℕ) (files : Files) (failed : Type 0) (held : Option (List ℕ)) (due : Outcome) → files name ≡ held → failed
-    → due ≡ of_files name name held None → SeenFiles name name files failed due
-seen_once name files failed None due is fault is_due = seen_as_missing name name files failed due fault is_due
-seen_once name files failed (Some bytes) due is fault is_due = by_plan (task_file_verdict bytes) refl
+-- where nothing was seen under a name, the outcome says so, or is the same whatever that name has
+abbrev pub OrAny : (Files → Outcome) → Files → List ℕ → Type 0
+OrAny over seen name = (over seen ≡ unreadable name) ⊎ ((held : Option (List ℕ)) → over seen ≡ over (with_seen seen name held))
+
+blind_plan : (plan : PlanParts) (wanted : Wanted) (seen : Files) (name : List ℕ) → seen name ≡ None → OrAny (of_good_plan plan wanted) seen name
+blind_plan plan Wanted.check seen name is = inr (λ held. refl)
+blind_plan plan (Wanted.ideal journal) seen name is =
+    by_names journal name
+    (λ test same. inl (ap (of_journal plan journal) (ap seen same ∙ is) ∙ ap unreadable same))
+    (λ test differ. inr (λ held. ap (of_journal plan journal) (sym (seen_elsewhere seen name held journal differ))))
+
+blind : (given : Verdict PlanParts) (wanted : Wanted) (seen : Files) (name : List ℕ) → seen name ≡ None → OrAny (of_task_file given wanted) seen name
+blind (Err fault) wanted seen name is = inr (λ held. refl)
+blind (Ok plan) wanted seen name is =
+    let refused = has_cycle (graph_of_plan plan) in
+    elim (cases_Bool refused) [
+      | inl some ↦ inr (λ held. cond-true refused _ _ some ∙ sym (cond-true refused _ _ some))
+      | inr none ↦ elim (blind_plan plan wanted seen name is) [
+        | inl unread ↦ inl (cond-false refused _ _ none ∙ unread)
+        | inr same ↦ inr (λ held. cond-false refused _ _ none ∙ same held ∙ sym (cond-false refused _ _ none))
+      ]
+    ]
+
+-- a task file that was read once, whatever was seen under its name later
+pub file_seen : (file bytes : List ℕ) (wanted : Wanted) (files : Files) (failed : Type 0) (due : Outcome) → files file ≡ Some bytes
+    → IsDueOver files failed (of_task_file (task_file_verdict bytes) wanted) due → IsDueOver files failed (λ held. of_file file (held file) wanted held) due
+file_seen file bytes wanted files failed due held of = by_seen (of.are_seen file)
   where
-    by_plan : (given : Verdict PlanParts) → task_file_verdict bytes ≡ given → SeenFiles name name files failed due
-    by_plan (Ok plan) given_is = seen_as_missing name name files failed due fault (is_due ∙ ap (of_plan name None) given_is)
-    by_plan (Err unread) given_is = record {
-      seen = files;
-      are_seen = λ other. inl refl;
-      is_due =
-          is_due ∙ (ap (of_plan name None) given_is
-          ∙ (ap (of_plan name (files name)) (sym given_is) ∙ ap (λ content. of_files name name content (files name)) (sym is)));
+    by_seen : IsSeen (files file) failed (of.seen file) → IsDueOver files failed (λ held. of_file file (held file) wanted held) due
+    by_seen (inl is) = record {
+      seen = of.seen;
+      are_seen = of.are_seen;
+      is_due = of.is_due ∙ ap (λ content. of_file file content wanted of.seen) (sym (is ∙ held));
     }
-
-seen_same : (name : List ℕ) (files : Files) (failed : Type 0) (due : Outcome) (file_seen journal_seen : Option (List ℕ))
-    → IsSeen (files name) failed file_seen → IsSeen (files name) failed journal_seen → due ≡ of_files name name file_seen journal_seen
-    → SeenFiles name name files failed due
-seen_same name files failed due file_seen journal_seen (inr fault) journal is_due =
-    seen_as_missing name name files failed due fault.0 (is_due ∙ ap (λ content. of_files name name content journal_seen) fault.1)
-seen_same name files failed due file_seen journal_seen (inl file_is) (inr fault) is_due =
-    seen_once name files failed (files name) due refl fault.0
-    (is_due ∙ (ap (λ content. of_files name name content journal_seen) file_is ∙ ap (of_files name name (files name)) fault.1))
-seen_same name files failed due file_seen journal_seen (inl file_is) (inl journal_is) is_due = record {
-  seen = files;
-  are_seen = λ other. inl refl;
-  is_due = is_due ∙ (ap (λ content. of_files name name content journal_seen) file_is ∙ ap (of_files name name (files name)) journal_is);
-}
-
-pub seen_files : (file journal : List ℕ) (files : Files) (failed : Type 0) (due : Outcome)
-    → IsOfFiles file journal (files file) (files journal) failed due → SeenFiles file journal files failed due
-seen_files file journal files failed due of =
-    by_names journal file
-    (λ test same.
-    let P : List ℕ → Type 0 = λ name. IsOfFiles file name (files file) (files name) failed due → SeenFiles file name files failed due in
-    subst P (sym same) (λ one. seen_same file files failed due one.file_seen one.journal_seen one.file_is_seen one.journal_is_seen one.is_due) of)
-    (λ test differ. seen_apart file journal files failed due differ of)
+    by_seen (inr fault) = elim (blind (task_file_verdict bytes) wanted of.seen file fault.1) [
+      | inl unread ↦
+          as_missing files failed (λ held. of_file file (held file) wanted held) due file fault.0
+          (of.is_due ∙ unread ∙ ap (λ content. of_file file content wanted (with_seen files file None)) (sym (seen_there files file None)))
+      | inr same ↦ record {
+        seen = with_seen of.seen file (Some bytes);
+        are_seen = each_seen files of.seen failed file (Some bytes) of.are_seen (inl (sym held));
+        is_due =
+            of.is_due ∙ same (Some bytes)
+            ∙ ap (λ content. of_file file content wanted (with_seen of.seen file (Some bytes))) (sym (seen_there of.seen file (Some bytes)));
+      }
+    ]

@@ -37,7 +37,9 @@ abbrev pub HasCause : Option Files → ℕ → ℕ → List (List ℕ) → Answe
 HasCause told before now names (answer.Unreadable word) = Rises before now ⊎ IsMissingOne told names
 HasCause told before now names answer.Usage = ⊤
 HasCause told before now names (answer.TaskRefused fault) = ⊤
+HasCause told before now names (answer.PatternRefused plan cycle) = ⊤
 HasCause told before now names (answer.JournalRefused fault) = ⊤
+HasCause told before now names (answer.Check plan pattern length walk) = ⊤
 HasCause told before now names (answer.Ideal plan journal) = ⊤
 
 -- the status where a text was written, or not

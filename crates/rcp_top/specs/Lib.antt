@@ -1,4 +1,6 @@
+pub mod Forms
 pub mod Lines
+pub mod PatternLines
 pub mod Outcome
 pub mod Ending
 pub mod Seen

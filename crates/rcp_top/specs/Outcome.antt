@@ -1,10 +1,13 @@
 -- What a call is to answer and to write, over the words and the files.
-use Rattle.std.specs.Prelude.{ℕ, ℤ, List, [], ◌∷◌, ◌++◌, length, codes, map, flat_map, Option, Some, None, Result, Ok, Err, if◌then◌else◌}
-use Rattle.std.specs.Str.{bytes_eq}
+use Rattle.std.specs.Prelude.{ℕ, ℤ, List, [], ◌∷◌, ◌++◌, length, map, flat_map, Option, Some, None, Result, Ok, Err, if◌then◌else◌}
 use Rattle.rcp_base.specs.Files.{Files}
+use Rattle.rcp_model.specs.declared.node.Node.{Node}
 use Rattle.rcp_model.specs.declared.plan.ActuatorRow.{ActuatorRow}
 use Rattle.rcp_model.specs.declared.plan.PlanParts.{PlanParts}
 use Rattle.rcp_model.specs.FrameRows.{FrameRows, History}
+use Rattle.rcp_model.specs.Levels.{has_cycle}
+use Rattle.rcp_model.specs.PlanGraph.{graph_of_plan}
+use Rattle.rcp_model.specs.Shown.{recovery_length, witness_walk, witness_cycle}
 use Rattle.rcp_model.specs.Uniprocessor.{ProcessorState, ideal_state, ideal_command}
 use Rattle.task_file.specs.declared.fault.FileFault.{FileFault}
 use Rattle.task_file.specs.Verdict.{Verdict}
@@ -16,6 +19,8 @@ use Rattle.rcp_top.specs.declared.answer.Answer.{Answer}
 use Rattle.rcp_top.specs.declared.answer.Answer.TheVariants as answer
 use Rattle.rcp_top.specs.declared.status.Status.{Status}
 use Rattle.rcp_top.specs.declared.status.Status.TheVariants as status
+use Rattle.rcp_top.specs.Forms.{Form, Wanted, form_of}
+use Rattle.rcp_top.specs.PatternLines.{pattern_refused_line, check_text}
 use Rattle.rcp_top.specs.Lines.{frame_line, vote_line, ideal_line, end_line, unreadable_line, usage_line, task_refused_line, journal_refused_line}
 
 -- a status and a text
@@ -76,42 +81,49 @@ abbrev pub of_journal : PlanParts → List ℕ → Option (List ℕ) → Outcome
 of_journal plan word None = unreadable word
 of_journal plan word (Some bytes) = of_history plan (journal_verdict plan bytes)
 
+-- a pattern with this unvoted cycle
+abbrev pub pattern_refused : PlanParts → List Node → Outcome
+pattern_refused plan nodes = record { status = status.PatternRefused; text = pattern_refused_line plan.cells nodes }
+
+-- an analysis with this recovery length and walk
+abbrev pub checked : PlanParts → ℕ → List Node → Outcome
+checked plan length walk = record { status = status.Done; text = check_text plan length walk }
+
+-- the outcome of a plan whose pattern has no unvoted cycle, over these files
+abbrev pub of_good_plan : PlanParts → Wanted → Files → Outcome
+of_good_plan plan Wanted.check files = checked plan (recovery_length (graph_of_plan plan)) (witness_walk (graph_of_plan plan))
+of_good_plan plan (Wanted.ideal journal) files = of_journal plan journal (files journal)
+
+-- the outcome of a plan: its pattern is refused exactly where it has an unvoted cycle
+abbrev pub of_plan : PlanParts → Wanted → Files → Outcome
+of_plan plan wanted files =
+    if has_cycle (graph_of_plan plan) then pattern_refused plan (witness_cycle (graph_of_plan plan)) else of_good_plan plan wanted files
+
 -- the outcome by what the task file gives: the parts of a plan, or a fault
-abbrev pub of_plan : List ℕ → Option (List ℕ) → Verdict PlanParts → Outcome
-of_plan journal held (Ok plan) = of_journal plan journal held
-of_plan journal held (Err fault) = task_refused fault
+abbrev pub of_task_file : Verdict PlanParts → Wanted → Files → Outcome
+of_task_file (Ok plan) wanted files = of_plan plan wanted files
+of_task_file (Err fault) wanted files = task_refused fault
 
--- the outcome by what is held under the words of the task file and of the journal
-abbrev pub of_files : List ℕ → List ℕ → Option (List ℕ) → Option (List ℕ) → Outcome
-of_files file journal None journal_held = unreadable file
-of_files file journal (Some bytes) journal_held = of_plan journal journal_held (task_file_verdict bytes)
-
--- the words of the task file and of the journal, where the words are `ideal FILE JOURNAL`
-abbrev pub ideal_words : List (List ℕ) → Option (List ℕ × List ℕ)
-ideal_words (word ∷ file ∷ journal ∷ []) = if bytes_eq word (codes "ideal") then Some (file, journal) else None
-ideal_words _ = None
-
--- the words that name files
-abbrev pub file_words : Option (List ℕ × List ℕ) → List (List ℕ)
-file_words (Some (file, journal)) = file ∷ journal ∷ []
-file_words None = []
-
-abbrev pub files_named : List (List ℕ) → List (List ℕ)
-files_named words = file_words (ideal_words words)
+-- the outcome by what is held under the word of the task file
+abbrev pub of_file : List ℕ → Option (List ℕ) → Wanted → Files → Outcome
+of_file file None wanted files = unreadable file
+of_file file (Some bytes) wanted files = of_task_file (task_file_verdict bytes) wanted files
 
 -- the outcome by the form of the words, over these files
-abbrev pub of_words : Option (List ℕ × List ℕ) → Files → Outcome
-of_words (Some (file, journal)) files = of_files file journal (files file) (files journal)
-of_words None files = usage
+abbrev pub of_form : Option Form → Files → Outcome
+of_form (Some form) files = of_file form.file (files form.file) form.wanted files
+of_form None files = usage
 
 -- what a call with these words is to answer and to write, over these files
 abbrev pub outcome_of : List (List ℕ) → Files → Outcome
-outcome_of words files = of_words (ideal_words words) files
+outcome_of words files = of_form (form_of words) files
 
 -- the outcome that an answer stands for
 abbrev pub outcome_of_answer : Answer → Outcome
 outcome_of_answer answer.Usage = usage
 outcome_of_answer (answer.Unreadable word) = unreadable word.now
 outcome_of_answer (answer.TaskRefused fault) = task_refused fault
+outcome_of_answer (answer.PatternRefused plan cycle) = pattern_refused plan cycle
 outcome_of_answer (answer.JournalRefused fault) = journal_refused fault
+outcome_of_answer (answer.Check plan pattern length walk) = checked plan length walk
 outcome_of_answer (answer.Ideal plan journal) = ideal_run plan (history_in plan journal)

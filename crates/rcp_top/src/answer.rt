@@ -1,8 +1,10 @@
 //! What the words and the files make due, once all is read and before anything is written.
 //! This project's own.
 use fault_journal::{Journal, JournalFault};
-use rcp_model::Plan;
+use rcp_base::List;
+use rcp_model::{Node, Plan};
 use task_file::FileFault;
+use vote_pattern::Pattern;
 
 /// What is due.
 #[derive(Drop)]
@@ -11,7 +13,22 @@ pub enum Answer<'a> {
     /// The file under this word was not read.
     Unreadable(&'a str),
     TaskRefused(FileFault),
+    /// The vote pattern has this unvoted cycle.
+    PatternRefused {
+        plan: Plan,
+        cycle: List<Node>,
+    },
     JournalRefused(JournalFault),
+    /// The analysis of the vote pattern.
+    Check {
+        plan: Plan,
+        pattern: Pattern,
+        length: u32,
+        walk: List<Node>,
+    },
     /// The run of one faultless processor.
-    Ideal { plan: Plan, journal: Journal },
+    Ideal {
+        plan: Plan,
+        journal: Journal,
+    },
 }

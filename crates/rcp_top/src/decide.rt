@@ -1,20 +1,25 @@
 //! Decides what is due: reads all that is needed, and touches no sink.
 //! This project's own.
-ghost use Rattle.std.specs.Prelude.{◌≡◌, ◌≤◌, ◌∷◌, [], IfOk, map, option_map, string_bytes};
+ghost use Rattle.std.specs.Prelude.{◌≡◌, ◌≤◌, ◌∷◌, [], IfOk, map, string_bytes};
 ghost use Rattle.rcp_base.specs.Files.{IfTold, Rises};
 ghost use Rattle.task_file.specs.TaskFile.{task_file_verdict};
 ghost use Rattle.rcp_top.specs.Ending.{EndsOverSeen, HasCause};
 ghost use Rattle.rcp_top.specs.Lines.{is_memory, is_journal_memory};
+ghost use Rattle.rcp_top.specs.Forms as forms;
 ghost use Rattle.rcp_top.specs.Outcome as spec;
 ghost use Rattle.rcp_top.specs.Seen as seen;
 ghost use Rattle.fault_journal.specs.History.{journal_verdict};
 
 use crate::answer::Answer;
+use crate::form::{Wanted, form_of};
+use crate::judge::judge;
 use fault_journal::{Journal, JournalFault};
-use rcp_base::{Folder, MAX_JOURNAL, MAX_TASK_FILE, Memory, ReadError};
-use rcp_model::Plan;
+use rcp_base::{Folder, List, MAX_JOURNAL, MAX_TASK_FILE, Memory, ReadError};
+use rcp_model::{Node, Plan};
+use recovery_analysis::Verdict;
 use std::alloc::Global;
 use task_file::{FileFault, read_plan};
+use vote_pattern::Pattern;
 
 /// What the words make due.
 pub fn decide<'a, F: Folder>(
@@ -25,48 +30,33 @@ pub fn decide<'a, F: Folder>(
     ensures due { IfOk result (λ answer. IfTold (F.files folder.old) (λ files.
         EndsOverSeen (map (λ word. string_bytes word) words.now) files (Rises (F.faults folder.old) (F.faults folder.new)) (λ due. spec.outcome_of_answer answer ≡ due))) }
     ensures cause { IfOk result (HasCause (F.files folder.old) (F.faults folder.old) (F.faults folder.new)
-        (spec.files_named (map (λ word. string_bytes word) words.now))) }
+        (forms.files_named (map (λ word. string_bytes word) words.now))) }
     ensures files { F.files folder.new ≡ F.files folder.old }
     ensures ready { IfOk result seen.IsReady }
 {
-    match ideal_words(words) {
-        Some((file, journal)) => decide_ideal(alloc, file, journal, folder),
+    match form_of(words) {
+        Some(form) => decide_form(alloc, form.file, form.wanted, folder),
         None => Ok(Answer::Usage),
     }
 }
 
-// The words of the task file and of the journal, where the words are `ideal FILE JOURNAL`.
-fn ideal_words(words: &[String]) -> Option<(&str, &str)>
-    ensures { option_map (λ p. (p.0.now, p.1.now)) result ≡ spec.ideal_words (map (λ word. string_bytes word) words.now) }
-{
-    match words {
-        [word, file, journal] => {
-            if word.as_str() == "ideal" {
-                Some((file.as_str(), journal.as_str()))
-            } else {
-                None
-            }
-        }
-        _ => None,
-    }
-}
-
-// What is due of the run of one faultless processor over these two files.
-fn decide_ideal<'a, F: Folder>(
+// What is due of the task file under this word, and of the journal that is then read.
+fn decide_form<'a, F: Folder>(
     alloc: Global,
     file: &'a str,
-    journal: &'a str,
+    wanted: Wanted<'a>,
     folder: &mut F,
 ) -> Result<Answer<'a>, Memory>
     ensures due { IfOk result (λ answer. IfTold (F.files folder.old) (λ files.
-        seen.IsOfFiles file.now journal.now (files file.now) (files journal.now) (Rises (F.faults folder.old) (F.faults folder.new)) (spec.outcome_of_answer answer))) }
-    ensures cause { IfOk result (HasCause (F.files folder.old) (F.faults folder.old) (F.faults folder.new) (file.now ∷ journal.now ∷ [])) }
+        seen.IsDueOver files (Rises (F.faults folder.old) (F.faults folder.new))
+        (λ held. spec.of_file file.now (held file.now) (forms.wanted_of wanted.entry) held) (spec.outcome_of_answer answer))) }
+    ensures cause { IfOk result (HasCause (F.files folder.old) (F.faults folder.old) (F.faults folder.new) (file.now ∷ forms.journal_words (forms.wanted_of wanted.entry))) }
     ensures files { F.files folder.new ≡ F.files folder.old }
     ensures ready { IfOk result seen.IsReady }
 {
     let mut bytes = Vec::new(alloc);
     match folder.read(alloc, file, MAX_TASK_FILE, &mut bytes) {
-        Ok(()) => with_task_file(alloc, bytes.as_slice(), journal, folder),
+        Ok(()) => with_task_file(alloc, bytes.as_slice(), wanted, folder),
         Err(ReadError::TooLong) => Ok(Answer::TaskRefused(FileFault::TooLong)),
         Err(ReadError::Failed) => Ok(Answer::Unreadable(file)),
         Err(ReadError::Memory) => Err(Memory),
@@ -77,18 +67,19 @@ fn decide_ideal<'a, F: Folder>(
 fn with_task_file<'a, F: Folder>(
     alloc: Global,
     bytes: &[u8],
-    journal: &'a str,
+    wanted: Wanted<'a>,
     folder: &mut F,
 ) -> Result<Answer<'a>, Memory>
     ensures due { IfOk result (λ answer. IfTold (F.files folder.old) (λ files.
-        seen.IsOfPlan journal.now (files journal.now) (Rises (F.faults folder.old) (F.faults folder.new)) (task_file_verdict bytes.now) (spec.outcome_of_answer answer))) }
-    ensures cause { IfOk result (HasCause (F.files folder.old) (F.faults folder.old) (F.faults folder.new) (journal.now ∷ [])) }
+        seen.IsDueOver files (Rises (F.faults folder.old) (F.faults folder.new))
+        (spec.of_task_file (task_file_verdict bytes.now) (forms.wanted_of wanted.entry)) (spec.outcome_of_answer answer))) }
+    ensures cause { IfOk result (HasCause (F.files folder.old) (F.faults folder.old) (F.faults folder.new) (forms.journal_words (forms.wanted_of wanted.entry))) }
     ensures files { F.files folder.new ≡ F.files folder.old }
     ensures ready { IfOk result seen.IsReady }
     ensures later { F.faults folder.old ≤ F.faults folder.new }
 {
     match read_plan(alloc, bytes) {
-        Ok(plan) => with_plan(alloc, plan, journal, folder),
+        Ok(plan) => with_plan(alloc, plan, wanted, folder),
         Err(fault) => {
             if is_memory(&fault) {
                 Err(Memory)
@@ -105,15 +96,60 @@ fn is_memory(fault: &FileFault) -> bool
     matches!(fault, FileFault::Memory)
 }
 
-// What is due of a plan, and of the journal that is then read.
+// What is due of a plan by the verdict on its vote pattern, and of the journal that is then read.
 fn with_plan<'a, F: Folder>(
+    alloc: Global,
+    plan: Plan,
+    wanted: Wanted<'a>,
+    folder: &mut F,
+) -> Result<Answer<'a>, Memory>
+    ensures due { IfOk result (λ answer. IfTold (F.files folder.old) (λ files.
+        seen.IsDueOver files (Rises (F.faults folder.old) (F.faults folder.new))
+        (spec.of_plan plan (forms.wanted_of wanted.entry)) (spec.outcome_of_answer answer))) }
+    ensures cause { IfOk result (HasCause (F.files folder.old) (F.faults folder.old) (F.faults folder.new) (forms.journal_words (forms.wanted_of wanted.entry))) }
+    ensures files { F.files folder.new ≡ F.files folder.old }
+    ensures ready { IfOk result seen.IsReady }
+    ensures later { F.faults folder.old ≤ F.faults folder.new }
+{
+    match judge(alloc, &plan)? {
+        Verdict::Cycle { nodes } => Ok(Answer::PatternRefused { plan, cycle: nodes }),
+        Verdict::Recovers { length, walk } => match wanted {
+            Wanted::Check => with_analysis(alloc, plan, length, walk),
+            Wanted::Ideal(journal) => with_journal_under(alloc, plan, journal, folder),
+        },
+    }
+}
+
+// The analysis of a plan's vote pattern.
+fn with_analysis<'a>(
+    alloc: Global,
+    plan: Plan,
+    length: u32,
+    walk: List<Node>,
+) -> Result<Answer<'a>, Memory>
+    ensures due { IfOk result (λ answer. spec.outcome_of_answer answer ≡ spec.checked plan length walk) }
+    ensures read { IfOk result seen.IsNotUnreadable }
+    ensures ready { IfOk result seen.IsReady }
+{
+    let pattern = Pattern::of(alloc, &plan)?;
+    Ok(Answer::Check {
+        plan,
+        pattern,
+        length,
+        walk,
+    })
+}
+
+// What is due of a plan, and of the journal under this word, which is then read.
+fn with_journal_under<'a, F: Folder>(
     alloc: Global,
     plan: Plan,
     journal: &'a str,
     folder: &mut F,
 ) -> Result<Answer<'a>, Memory>
     ensures due { IfOk result (λ answer. IfTold (F.files folder.old) (λ files.
-        seen.IsOfJournal plan journal.now (files journal.now) (Rises (F.faults folder.old) (F.faults folder.new)) (spec.outcome_of_answer answer))) }
+        seen.IsDueOver files (Rises (F.faults folder.old) (F.faults folder.new))
+        (λ held. spec.of_journal plan journal.now (held journal.now)) (spec.outcome_of_answer answer))) }
     ensures cause { IfOk result (HasCause (F.files folder.old) (F.faults folder.old) (F.faults folder.new) (journal.now ∷ [])) }
     ensures files { F.files folder.new ≡ F.files folder.old }
     ensures ready { IfOk result seen.IsReady }

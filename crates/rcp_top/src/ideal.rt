@@ -12,24 +12,13 @@ ghost use Rattle.uniproc_layer.specs.Uni.{StandsAfter};
 ghost use Rattle.rcp_top.specs.Outcome as spec;
 
 use crate::lines::{end_line, frame_line, ideal_line, vote_line};
+use crate::send::send;
 use fault_journal::Journal;
 use layer_stack::{FrameIn, Inputs};
 use rcp_base::{Memory, Sink, WriteError};
 use rcp_model::{Plan, PlanParts};
 use std::alloc::Global;
 use uniproc_layer::Uni;
-
-/// Writes a line by one call of the sink, if there was memory for it.
-#[tactic(auto, using(rcp_base::proofs::WritingLaws::writes_nothing))]
-pub fn send<S: Sink>(out: &mut S, line: Result<Vec<u8>, Memory>) -> Result<(), WriteError>
-    ensures { (text : List ℕ) → IfOk line (λ bytes. bytes.items ≡ text)
-        → Writes (S.written out.old) (S.written out.new) (S.faults out.old) (S.faults out.new) result text }
-{
-    match line {
-        Ok(bytes) => out.write_all(bytes.as_slice()),
-        Err(Memory) => Err(WriteError::Memory),
-    }
-}
 
 // The command of the actuator with this number, behind a frame.
 fn command_of(uni: &Uni, number: u32) -> i64

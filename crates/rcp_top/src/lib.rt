@@ -3,10 +3,15 @@
 #![tactic(auto)]
 
 mod answer;
+mod check;
 mod decide;
+mod form;
 mod ideal;
+mod judge;
 pub mod laws;
 mod lines;
+mod pattern_lines;
+mod send;
 mod status;
 mod top;
 mod write;

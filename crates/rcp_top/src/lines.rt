@@ -10,7 +10,7 @@ use rcp_base::{Memory, Name};
 use std::alloc::Global;
 use task_file::{FileFault, Path, path_text};
 
-fn put(line: &mut Vec<u8>, bytes: &[u8]) -> Result<(), Memory>
+pub fn put(line: &mut Vec<u8>, bytes: &[u8]) -> Result<(), Memory>
     ensures { OnOk result (line.new.items ≡ line.old.items ++ bytes.now) }
 {
     Ok(line.extend_from_slice(bytes)?)
@@ -22,7 +22,7 @@ fn put_value(alloc: Global, line: &mut Vec<u8>, value: i64) -> Result<(), Memory
     put(line, value.to_string(alloc)?.as_bytes())
 }
 
-fn put_count(alloc: Global, line: &mut Vec<u8>, count: u64) -> Result<(), Memory>
+pub fn put_count(alloc: Global, line: &mut Vec<u8>, count: u64) -> Result<(), Memory>
     ensures { OnOk result (line.new.items ≡ line.old.items ++ decimal count) }
 {
     put(line, count.to_string(alloc)?.as_bytes())

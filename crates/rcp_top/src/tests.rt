@@ -3,6 +3,7 @@
 mod files;
 mod frames;
 mod journals;
+mod patterns;
 
 use crate::{Status, rcp};
 use files::{COUNTER, MOTOR};
@@ -28,7 +29,6 @@ const USAGE: &str =
 // Parts of the counter's file, and what may stand in their place. A tilde is a line feed, in all such lines.
 const ACCEPTED: &str = r#"replicas = 3 => replicas = 9~sensor = []
 initial = 0 => initial = -9223372036854775808
-["n"] => []
 ["count"] => []
 name = "n", initial = 0 => initial = 0, name = "n"
 actuator = [{ name = "out", value = "n" }] => actuator = []
@@ -207,7 +207,9 @@ fn the_counter_counts(rt: HostRuntime) -> Result<(), Fail> {
 
 #[test]
 fn words_that_are_no_form_are_refused(rt: HostRuntime) -> Result<(), Fail> {
-    for line in "\nideal\nideal T\nideal T J J\nIDEAL T J\ncheck T\nT J ideal".split('\n') {
+    for line in "\nideal\nideal T\nideal T J J\nIDEAL T J\nT J ideal\ncheck\ncheck T J\nCHECK T\nthin T".split(
+        '\n',
+    ) {
         let due = (Status::Usage, USAGE);
         check(&rt, rt.alloc(), line, COUNTER, TWO_FRAMES, due)?;
     }

@@ -3,7 +3,7 @@
 ghost use Rattle.std.specs.Prelude.{◌≡◌, ◌⊎◌, map, string_bytes};
 ghost use Rattle.rcp_base.specs.Files.{IfTold, Rises};
 ghost use Rattle.rcp_top.specs.Ending.{Ends, EndsOverSeen, IsMissingOne};
-ghost use Rattle.rcp_top.specs.Outcome.{files_named};
+ghost use Rattle.rcp_top.specs.Forms.{files_named};
 
 use crate::decide::decide;
 use crate::status::Status;

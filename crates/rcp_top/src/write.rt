@@ -2,15 +2,19 @@
 //! This project's own.
 ghost use Rattle.std.specs.Prelude.{◌≡◌, ℕ, List, IfOk};
 ghost use Rattle.rcp_top.specs.Ending.{Ends, status_after};
-ghost use Rattle.rcp_top.specs.Outcome.{outcome_of_answer, task_refused, journal_refused, unreadable};
+ghost use Rattle.rcp_top.specs.Outcome.{outcome_of_answer, task_refused, pattern_refused, journal_refused, unreadable};
 ghost use Rattle.rcp_top.specs.Seen.{IsReady};
 
 use crate::answer::Answer;
-use crate::ideal::{send, write_ideal};
+use crate::check::write_check;
+use crate::ideal::write_ideal;
 use crate::lines::{journal_refused_line, task_refused_line, unreadable_line, usage_line};
+use crate::pattern_lines::pattern_refused_line;
+use crate::send::send;
 use crate::status::Status;
 use fault_journal::JournalFault;
 use rcp_base::{Memory, Sink, WriteError};
+use rcp_model::{Node, PlanParts};
 use std::alloc::Global;
 use task_file::FileFault;
 
@@ -23,7 +27,19 @@ pub fn write_answer<S: Sink>(alloc: Global, answer: Answer<'_>, out: &mut S) -> 
         Answer::Usage => write_line(out, Status::Usage, usage_line()),
         Answer::Unreadable(word) => write_unreadable(alloc, word, out),
         Answer::TaskRefused(fault) => write_task_refused(alloc, fault, out),
+        Answer::PatternRefused { plan, cycle } => {
+            write_pattern_refused(alloc, plan.parts(), cycle.as_slice(), out)
+        }
         Answer::JournalRefused(fault) => write_journal_refused(alloc, fault, out),
+        Answer::Check {
+            plan,
+            pattern,
+            length,
+            walk,
+        } => end(
+            Status::Done,
+            write_check(alloc, plan.parts(), &pattern, length, walk.as_slice(), out),
+        ),
         Answer::Ideal { plan, mut journal } => {
             end(Status::Done, write_ideal(alloc, &plan, &mut journal, out))
         }
@@ -62,6 +78,19 @@ fn write_task_refused<S: Sink>(alloc: Global, fault: FileFault, out: &mut S) -> 
 {
     let line: Result<Vec<u8>, Memory> = task_refused_line(alloc, fault);
     end(Status::TaskRefused, send(out, line))
+}
+
+#[tactic(auto, using(crate::proofs::EndingLemmas::ends_behind_write))]
+fn write_pattern_refused<S: Sink>(
+    alloc: Global,
+    plan: &PlanParts,
+    cycle: &[Node],
+    out: &mut S,
+) -> Status
+    ensures { Ends (pattern_refused plan.now cycle.now) result (S.written out.old) (S.written out.new) (S.faults out.old) (S.faults out.new) }
+{
+    let line: Result<Vec<u8>, Memory> = pattern_refused_line(alloc, plan.cells.as_slice(), cycle);
+    end(Status::PatternRefused, send(out, line))
 }
 
 #[tactic(auto, using(crate::proofs::EndingLemmas::ends_behind_write))]

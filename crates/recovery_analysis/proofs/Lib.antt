@@ -9,3 +9,4 @@ pub mod WalkLemmas
 pub mod MarkLemmas
 pub mod TransferLemmas
 pub mod ShownLemmas
+pub mod VerdictLaws

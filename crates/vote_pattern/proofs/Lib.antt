@@ -1,4 +1,4 @@
 pub mod BitLemmas
 pub mod VoteLemmas
 pub mod CountLemmas
-mod GraphLemmas
+pub mod GraphLaws

@@ -1,12 +1,25 @@
-use Rattle.rcp_top.proofs.DecideLemmas.{journal_was_read, journal_was_too_long}
+-- By the verdict on the pattern, and by what is wanted.
+use Rattle.std.proofs.Common.{sym, ◌∙◌}
+use Rattle.rcp_model.specs.PlanGraph.{graph_of_plan}
+use Rattle.rcp_top.specs.Forms.{wanted_of, Wanted}
+use Rattle.rcp_top.proofs.DecideLemmas.{pattern_was_refused, pattern_was_good, analysis_was_wanted, this_recovery}
 use Rattle.rcp_top.proofs.decide.with_plan.Goals as goal
 
-pub returns-in-Ok-clause-due : goal.returns-in-Ok-clause-due
-returns-in-Ok-clause-due g c =
-    journal_was_read (g.F.Folder.files c.args.folder.now) c.args.plan c.args.journal.now c.read.new.into.items _ c.with_journal.result c.in-Ok.ensures.reads.1
-    (rw c.as_slice.ensures.value at c.with_journal.ensures.due)
+pub returns-in-Cycle-clause-due : goal.returns-in-Cycle-clause-due
+returns-in-Cycle-clause-due g c =
+    pattern_was_refused (g.F.Folder.files c.args.folder.now) c.args.plan (wanted_of c.args.wanted) _ c.in-Cycle.nodes (sym c.in-Cycle.is ∙ c.in_ok-nodes.ensures)
 
-pub returns-in-Err-TooLong-clause-due : goal.returns-in-Err-TooLong-clause-due
-returns-in-Err-TooLong-clause-due g c =
-    let reads = rw c.in-Err-TooLong.field-0-is at c.in-Err-TooLong.ensures.reads in
-    journal_was_too_long (g.F.Folder.files c.args.folder.now) c.args.plan c.args.journal.now _ reads.1
+pub returns-in-Check-clause-due : goal.returns-in-Check-clause-due
+returns-in-Check-clause-due g c =
+    let graph = graph_of_plan c.args.plan in
+    let soon = this_recovery graph c.in-Recovers.length c.in-Recovers.walk (sym c.in-Recovers.is ∙ c.in_ok-nodes.ensures) in
+    let told = g.F.Folder.files c.args.folder.now in
+    rw c.in-Check.is (pattern_was_good told c.args.plan Wanted.check _ c.with_analysis.result soon.none
+    (analysis_was_wanted told c.args.plan _ c.in-Recovers.length c.in-Recovers.walk c.with_analysis.result soon.soon soon.is c.with_analysis.ensures.due))
+
+pub returns-in-Ideal-clause-due : goal.returns-in-Ideal-clause-due
+returns-in-Ideal-clause-due g c =
+    let graph = graph_of_plan c.args.plan in
+    let soon = this_recovery graph c.in-Recovers.length c.in-Recovers.walk (sym c.in-Recovers.is ∙ c.in_ok-nodes.ensures) in
+    let told = g.F.Folder.files c.args.folder.now in
+    rw c.in-Ideal.is (pattern_was_good told c.args.plan (Wanted.ideal c.in-Ideal.journal.now) _ c.with_journal_under.result soon.none c.with_journal_under.ensures.due)

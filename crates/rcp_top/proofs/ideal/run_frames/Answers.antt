@@ -1,8 +1,8 @@
 -- The frame that is written is the one behind which the processor stands, and what is left is to be written.
-use Rattle.std.proofs.Common.{◌≡◌, ◌<◌, ◌≤◌, ◌+◌, ℕ, ℤ, List, IfOk, length, get_or, slice_get, Some, refl, sym, ap, ◌∙◌, subst, arith}
+use Rattle.std.proofs.Common.{◌≡◌, ◌<◌, ◌≤◌, ℤ, List, IfOk, length, get_or, slice_get, Some, sym, ◌∙◌, subst, arith}
 use Rattle.std.proofs.lemmas.Result.{err_from_is_err_and}
 use Rattle.rcp_base.proofs.WritingLaws.{progress_start, progress_more, progress_stop, progress_last}
-use Rattle.rcp_model.specs.FrameRows.{History, FrameRows}
+use Rattle.rcp_model.specs.FrameRows.{FrameRows}
 use Rattle.rcp_top.specs.Lines.{end_line}
 use Rattle.rcp_top.specs.Outcome.{sensors_in}
 use Rattle.rcp_top.proofs.FrameLemmas.{behind, next_frame, rest_at_start, rest_at, rest_at_end, stands_behind, progress_as}

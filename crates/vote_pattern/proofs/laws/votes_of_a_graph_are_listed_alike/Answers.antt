@@ -1,4 +1,4 @@
-use Rattle.vote_pattern.proofs.GraphLemmas.{listed_alike}
+use Rattle.vote_pattern.proofs.GraphLaws.{listed_alike}
 use Rattle.vote_pattern.proofs.laws.votes_of_a_graph_are_listed_alike.Goals as goal
 
 pub returns : goal.returns
