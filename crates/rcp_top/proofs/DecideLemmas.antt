@@ -28,7 +28,7 @@ use Rattle.task_file.specs.TaskFile.{task_file_verdict, document_of, parts_in}
 use Rattle.rcp_top.specs.Ending.{EndsOverSeen, HasCause}
 use Rattle.rcp_top.specs.Forms.{Form, Wanted, form_of, file_words, files_named}
 use Rattle.rcp_top.specs.Lines.{is_memory}
-use Rattle.rcp_top.specs.Outcome.{Outcome, of_form, of_file, of_task_file, of_plan, of_good_plan, of_journal, of_history, outcome_of_answer, checked, unreadable, usage, pattern_refused, journal_refused, task_refused}
+use Rattle.rcp_top.specs.Outcome.{Outcome, of_form, of_file, of_task_file, of_plan, of_good_plan, of_journal, of_history, outcome_of_answer, checked, thinned_plan, unreadable, usage, pattern_refused, journal_refused, task_refused}
 use Rattle.rcp_top.specs.Seen.{IsDueOver}
 use Rattle.rcp_top.proofs.SeenLemmas.{as_held, as_missing, with_seen, seen_more, seen_there, file_seen}
 
@@ -141,6 +141,13 @@ analysis_was_wanted None plan failed length walk (Ok given) soon is due = tt
 analysis_was_wanted (Some files) plan failed length walk (Ok given) soon is due =
     as_held files failed (of_good_plan plan Wanted.check) (outcome_of_answer given) (due ∙ ap₂ (checked plan) soon is)
 
+pub thinning_was_wanted : (told : Option Files) (plan : PlanParts) (failed : Type 0) (result : Result Answer Memory)
+    → IfOk result (λ given. outcome_of_answer given ≡ thinned_plan plan) → AnswersDue told failed (of_good_plan plan Wanted.thin) result
+thinning_was_wanted told plan failed (Err e) due = tt
+thinning_was_wanted None plan failed (Ok given) due = tt
+thinning_was_wanted (Some files) plan failed (Ok given) due =
+    as_held files failed (of_good_plan plan Wanted.thin) (outcome_of_answer given) due
+
 -- a fault that is not want of memory is the definition's
 fault_is_due : {Y : Type 0} (why : FileFault) (said : Verdict Y) → is_memory why ≡ false → IsFault why said → said ≡ Err why
 fault_is_due fault.Memory said wanted is = cc
@@ -185,6 +192,7 @@ cause_since_count told before between now words (answer.TaskRefused why) later c
 cause_since_count told before between now words (answer.PatternRefused plan cycle) later cause = tt
 cause_since_count told before between now words (answer.JournalRefused fault) later cause = tt
 cause_since_count told before between now words (answer.Check plan pattern length walk) later cause = tt
+cause_since_count told before between now words (answer.Thin plan pattern spared length walk) later cause = tt
 cause_since_count told before between now words (answer.Ideal plan journal) later cause = tt
 
 -- the cause of an answer that was read from a later count on

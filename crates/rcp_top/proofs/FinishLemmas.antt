@@ -23,6 +23,7 @@ seen_is_held held seen failed fine (inr fault) = absurd (fine fault.0)
 same_of_good_plan : (plan : PlanParts) (wanted : Wanted) (seen files : Files) → ((name : List ℕ) → seen name ≡ files name)
     → of_good_plan plan wanted seen ≡ of_good_plan plan wanted files
 same_of_good_plan plan Wanted.check seen files same = refl
+same_of_good_plan plan Wanted.thin seen files same = refl
 same_of_good_plan plan (Wanted.ideal journal) seen files same = ap (of_journal plan journal) (same journal)
 
 same_of_task_file : (given : Verdict PlanParts) (wanted : Wanted) (seen files : Files) → ((name : List ℕ) → seen name ≡ files name)

@@ -1,6 +1,7 @@
 mod FrameLemmas
 mod HistoryLemmas
 mod LineLemmas
+mod ThinLemmas
 mod VoteLemmas
 mod CheckLemmas
 mod EndingLemmas

@@ -79,6 +79,7 @@ OrAny over seen name = (over seen ≡ unreadable name) ⊎ ((held : Option (List
 
 blind_plan : (plan : PlanParts) (wanted : Wanted) (seen : Files) (name : List ℕ) → seen name ≡ None → OrAny (of_good_plan plan wanted) seen name
 blind_plan plan Wanted.check seen name is = inr (λ held. refl)
+blind_plan plan Wanted.thin seen name is = inr (λ held. refl)
 blind_plan plan (Wanted.ideal journal) seen name is =
     by_names journal name
     (λ test same. inl (ap (of_journal plan journal) (ap seen same ∙ is) ∙ ap unreadable same))

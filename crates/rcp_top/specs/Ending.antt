@@ -40,6 +40,7 @@ HasCause told before now names (answer.TaskRefused fault) = ⊤
 HasCause told before now names (answer.PatternRefused plan cycle) = ⊤
 HasCause told before now names (answer.JournalRefused fault) = ⊤
 HasCause told before now names (answer.Check plan pattern length walk) = ⊤
+HasCause told before now names (answer.Thin plan pattern spared length walk) = ⊤
 HasCause told before now names (answer.Ideal plan journal) = ⊤
 
 -- the status where a text was written, or not

@@ -1,13 +1,15 @@
 -- What a call is to answer and to write, over the words and the files.
-use Rattle.std.specs.Prelude.{ℕ, ℤ, List, [], ◌∷◌, ◌++◌, length, map, flat_map, Option, Some, None, Result, Ok, Err, if◌then◌else◌}
+use Rattle.std.specs.Prelude.{ℕ, ◌-◌, ℤ, List, [], ◌∷◌, ◌++◌, length, map, flat_map, Option, Some, None, Result, Ok, Err, if◌then◌else◌}
 use Rattle.rcp_base.specs.Files.{Files}
 use Rattle.rcp_model.specs.declared.node.Node.{Node}
 use Rattle.rcp_model.specs.declared.plan.ActuatorRow.{ActuatorRow}
 use Rattle.rcp_model.specs.declared.plan.PlanParts.{PlanParts}
 use Rattle.rcp_model.specs.FrameRows.{FrameRows, History}
 use Rattle.rcp_model.specs.Levels.{has_cycle}
-use Rattle.rcp_model.specs.PlanGraph.{graph_of_plan}
+use Rattle.rcp_model.specs.PlanGraph.{graph_of_plan, voted_count}
 use Rattle.rcp_model.specs.Shown.{recovery_length, witness_walk, witness_cycle}
+use Rattle.rcp_model.specs.Thinning.{thinned}
+use Rattle.rcp_model.specs.Walk.{Graph}
 use Rattle.rcp_model.specs.Uniprocessor.{ProcessorState, ideal_state, ideal_command}
 use Rattle.task_file.specs.declared.fault.FileFault.{FileFault}
 use Rattle.task_file.specs.Verdict.{Verdict}
@@ -20,7 +22,7 @@ use Rattle.rcp_top.specs.declared.answer.Answer.TheVariants as answer
 use Rattle.rcp_top.specs.declared.status.Status.{Status}
 use Rattle.rcp_top.specs.declared.status.Status.TheVariants as status
 use Rattle.rcp_top.specs.Forms.{Form, Wanted, form_of}
-use Rattle.rcp_top.specs.PatternLines.{pattern_refused_line, check_text}
+use Rattle.rcp_top.specs.PatternLines.{pattern_refused_line, check_text, thin_text}
 use Rattle.rcp_top.specs.Lines.{frame_line, vote_line, ideal_line, end_line, unreadable_line, usage_line, task_refused_line, journal_refused_line}
 
 -- a status and a text
@@ -89,9 +91,24 @@ pattern_refused plan nodes = record { status = status.PatternRefused; text = pat
 abbrev pub checked : PlanParts → ℕ → List Node → Outcome
 checked plan length walk = record { status = status.Done; text = check_text plan length walk }
 
+-- a thinned pattern with this recovery length and walk, for which so many votes were spared
+abbrev pub thinned_out : PlanParts → ℕ → ℕ → List Node → Outcome
+thinned_out plan spared length walk = record { status = status.Done; text = thin_text plan spared length walk }
+
+-- how many votes thinning spares
+abbrev pub spared_count : Graph → ℕ
+spared_count g = voted_count g - voted_count (thinned g)
+
+-- the thinned pattern of a plan, with its recovery length and walk
+abbrev pub thinned_plan : PlanParts → Outcome
+thinned_plan plan =
+    let g = graph_of_plan plan in
+    thinned_out plan (spared_count g) (recovery_length (thinned g)) (witness_walk (thinned g))
+
 -- the outcome of a plan whose pattern has no unvoted cycle, over these files
 abbrev pub of_good_plan : PlanParts → Wanted → Files → Outcome
 of_good_plan plan Wanted.check files = checked plan (recovery_length (graph_of_plan plan)) (witness_walk (graph_of_plan plan))
+of_good_plan plan Wanted.thin files = thinned_plan plan
 of_good_plan plan (Wanted.ideal journal) files = of_journal plan journal (files journal)
 
 -- the outcome of a plan: its pattern is refused exactly where it has an unvoted cycle
@@ -126,4 +143,5 @@ outcome_of_answer (answer.TaskRefused fault) = task_refused fault
 outcome_of_answer (answer.PatternRefused plan cycle) = pattern_refused plan cycle
 outcome_of_answer (answer.JournalRefused fault) = journal_refused fault
 outcome_of_answer (answer.Check plan pattern length walk) = checked plan length walk
+outcome_of_answer (answer.Thin plan pattern spared length walk) = thinned_out plan spared length walk
 outcome_of_answer (answer.Ideal plan journal) = ideal_run plan (history_in plan journal)

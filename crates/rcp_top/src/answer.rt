@@ -26,6 +26,14 @@ pub enum Answer<'a> {
         length: u32,
         walk: List<Node>,
     },
+    /// The vote pattern without the votes that can be spared, how many they are, and its analysis.
+    Thin {
+        plan: Plan,
+        pattern: Pattern,
+        spared: u32,
+        length: u32,
+        walk: List<Node>,
+    },
     /// The run of one faultless processor.
     Ideal {
         plan: Plan,

@@ -1,13 +1,16 @@
-//! Writes the analysis of a vote pattern, one line at a time.
+//! Writes the analysis of a vote pattern or of its thinned one, one line at a time.
 //! This project's own.
 ghost use Rattle.std.specs.Prelude.{◌≡◌, IfOk, flat_map};
 ghost use Rattle.rcp_base.specs.Writing.{Writes};
 ghost use Rattle.rcp_model.specs.PlanGraph.{graph_of_plan};
+ghost use Rattle.rcp_model.specs.Thinning.{thinned};
 ghost use Rattle.rcp_model.specs.Walk.{Graph};
 ghost use Rattle.vote_pattern.specs.Votes.{AreVotesOf, votes_at};
 ghost use Rattle.rcp_top.specs.PatternLines as spec;
 
-use crate::pattern_lines::{recovery_line, slot_line, task_line, votes_line, walk_line};
+use crate::pattern_lines::{
+    recovery_line, slot_line, spared_line, task_line, votes_line, walk_line,
+};
 use crate::send::send;
 use rcp_base::{List, Memory, Name, Sink, WriteError};
 use rcp_model::{Node, PlanParts, Task, Variable};
@@ -29,6 +32,25 @@ pub fn write_check<S: Sink>(
 {
     write_tasks(alloc, plan, out)?;
     write_pattern(alloc, plan.cells.as_slice(), pattern, out)?;
+    write_recovery(alloc, plan.cells.as_slice(), length, walk, out)
+}
+
+/// Writes the votes that are left of a plan's, how many were spared, and how soon they recover.
+pub fn write_thin<S: Sink>(
+    alloc: Global,
+    plan: &PlanParts,
+    pattern: &Pattern,
+    spared: u32,
+    length: u32,
+    walk: &[Node],
+    out: &mut S,
+) -> Result<(), WriteError>
+    requires { AreVotesOf (thinned (graph_of_plan plan.now)) pattern.now }
+    ensures { Writes (S.written out.old) (S.written out.new) (S.faults out.old) (S.faults out.new) result
+        (spec.thin_text plan.now spared length walk.now) }
+{
+    write_pattern(alloc, plan.cells.as_slice(), pattern, out)?;
+    send(out, spared_line(alloc, spared))?;
     write_recovery(alloc, plan.cells.as_slice(), length, walk, out)
 }
 
@@ -75,8 +97,8 @@ fn write_task_lines<S: Sink>(
     Ok(())
 }
 
-/// Writes the votes of each slot, and their number.
-pub fn write_pattern<S: Sink>(
+// Writes the votes of each slot, and their number.
+fn write_pattern<S: Sink>(
     alloc: Global,
     cells: &[Variable],
     pattern: &Pattern,
@@ -106,8 +128,8 @@ fn write_slots<S: Sink>(
     Ok(())
 }
 
-/// Writes the recovery length and the walk beside it.
-pub fn write_recovery<S: Sink>(
+// Writes the recovery length and the walk beside it.
+fn write_recovery<S: Sink>(
     alloc: Global,
     cells: &[Variable],
     length: u32,

@@ -1,10 +1,12 @@
 //! Decides what is due: reads all that is needed, and touches no sink.
 //! This project's own.
-ghost use Rattle.std.specs.Prelude.{◌≡◌, ◌≤◌, ◌∷◌, [], IfOk, map, string_bytes};
+ghost use Rattle.std.specs.Prelude.{◌≡◌, ◌≤◌, ◌∷◌, [], false, IfOk, map, string_bytes};
 ghost use Rattle.rcp_base.specs.Files.{IfTold, Rises};
 ghost use Rattle.task_file.specs.TaskFile.{task_file_verdict};
 ghost use Rattle.rcp_top.specs.Ending.{EndsOverSeen, HasCause};
 ghost use Rattle.rcp_top.specs.Lines.{is_memory, is_journal_memory};
+ghost use Rattle.rcp_model.specs.Levels.{has_cycle};
+ghost use Rattle.rcp_model.specs.PlanGraph.{graph_of_plan};
 ghost use Rattle.rcp_top.specs.Forms as forms;
 ghost use Rattle.rcp_top.specs.Outcome as spec;
 ghost use Rattle.rcp_top.specs.Seen as seen;
@@ -12,7 +14,7 @@ ghost use Rattle.fault_journal.specs.History.{journal_verdict};
 
 use crate::answer::Answer;
 use crate::form::{Wanted, form_of};
-use crate::judge::judge;
+use crate::judge::{judge, thinned_pattern};
 use fault_journal::{Journal, JournalFault};
 use rcp_base::{Folder, List, MAX_JOURNAL, MAX_TASK_FILE, Memory, ReadError};
 use rcp_model::{Node, Plan};
@@ -115,6 +117,7 @@ fn with_plan<'a, F: Folder>(
         Verdict::Cycle { nodes } => Ok(Answer::PatternRefused { plan, cycle: nodes }),
         Verdict::Recovers { length, walk } => match wanted {
             Wanted::Check => with_analysis(alloc, plan, length, walk),
+            Wanted::Thin => with_thinning(alloc, plan),
             Wanted::Ideal(journal) => with_journal_under(alloc, plan, journal, folder),
         },
     }
@@ -137,6 +140,23 @@ fn with_analysis<'a>(
         pattern,
         length,
         walk,
+    })
+}
+
+// The thinned pattern of a plan whose pattern has no unvoted cycle, and its analysis.
+fn with_thinning<'a>(alloc: Global, plan: Plan) -> Result<Answer<'a>, Memory>
+    requires { has_cycle (graph_of_plan plan) ≡ false }
+    ensures due { IfOk result (λ answer. spec.outcome_of_answer answer ≡ spec.thinned_plan plan) }
+    ensures read { IfOk result seen.IsNotUnreadable }
+    ensures ready { IfOk result seen.IsReady }
+{
+    let thinned = thinned_pattern(alloc, &plan)?;
+    Ok(Answer::Thin {
+        plan,
+        pattern: thinned.pattern,
+        spared: thinned.spared,
+        length: thinned.length,
+        walk: thinned.walk,
     })
 }
 

@@ -8,6 +8,8 @@ ghost use Rattle.rcp_top.specs.Forms as spec;
 pub enum Wanted<'a> {
     /// The analysis of its vote pattern.
     Check,
+    /// Its vote pattern without the votes that can be spared.
+    Thin,
     /// The run of one faultless processor over the journal under this word.
     Ideal(&'a str),
 }
@@ -29,6 +31,11 @@ pub fn form_of(words: &[String]) -> Option<Form<'_>>
                 Some(Form {
                     file: file.as_str(),
                     wanted: Wanted::Check,
+                })
+            } else if word.as_str() == "thin" {
+                Some(Form {
+                    file: file.as_str(),
+                    wanted: Wanted::Thin,
                 })
             } else {
                 None

@@ -67,6 +67,18 @@ pub fn votes_line(alloc: Global, count: u32) -> Result<Vec<u8>, Memory>
     Ok(line)
 }
 
+/// `spared COUNT`
+#[tactic(auto, unfolding(crate::specs::PatternLines::spared_line))]
+pub fn spared_line(alloc: Global, count: u32) -> Result<Vec<u8>, Memory>
+    ensures { IfOk result (λ line. line.items ≡ spec.spared_line count) }
+{
+    let mut line = Vec::new(alloc);
+    put(&mut line, b"spared ")?;
+    put_count(alloc, &mut line, count as u64)?;
+    put(&mut line, b"\n")?;
+    Ok(line)
+}
+
 /// `recovery L`
 #[tactic(auto, unfolding(crate::specs::PatternLines::recovery_line))]
 pub fn recovery_line(alloc: Global, length: u32) -> Result<Vec<u8>, Memory>

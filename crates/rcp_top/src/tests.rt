@@ -207,7 +207,7 @@ fn the_counter_counts(rt: HostRuntime) -> Result<(), Fail> {
 
 #[test]
 fn words_that_are_no_form_are_refused(rt: HostRuntime) -> Result<(), Fail> {
-    for line in "\nideal\nideal T\nideal T J J\nIDEAL T J\nT J ideal\ncheck\ncheck T J\nCHECK T\nthin T".split(
+    for line in "\nideal\nideal T\nideal T J J\nIDEAL T J\nT J ideal\ncheck\ncheck T J\nCHECK T\nthin\nthin T J\nreplay T J".split(
         '\n',
     ) {
         let due = (Status::Usage, USAGE);

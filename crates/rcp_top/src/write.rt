@@ -6,7 +6,7 @@ ghost use Rattle.rcp_top.specs.Outcome.{outcome_of_answer, task_refused, pattern
 ghost use Rattle.rcp_top.specs.Seen.{IsReady};
 
 use crate::answer::Answer;
-use crate::check::write_check;
+use crate::check::{write_check, write_thin};
 use crate::ideal::write_ideal;
 use crate::lines::{journal_refused_line, task_refused_line, unreadable_line, usage_line};
 use crate::pattern_lines::pattern_refused_line;
@@ -39,6 +39,24 @@ pub fn write_answer<S: Sink>(alloc: Global, answer: Answer<'_>, out: &mut S) -> 
         } => end(
             Status::Done,
             write_check(alloc, plan.parts(), &pattern, length, walk.as_slice(), out),
+        ),
+        Answer::Thin {
+            plan,
+            pattern,
+            spared,
+            length,
+            walk,
+        } => end(
+            Status::Done,
+            write_thin(
+                alloc,
+                plan.parts(),
+                &pattern,
+                spared,
+                length,
+                walk.as_slice(),
+                out,
+            ),
         ),
         Answer::Ideal { plan, mut journal } => {
             end(Status::Done, write_ideal(alloc, &plan, &mut journal, out))

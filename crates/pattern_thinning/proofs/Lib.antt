@@ -1,0 +1,7 @@
+pub mod AlikeLemmas
+pub mod ReachLemmas
+pub mod FrontierLemmas
+pub mod TryLemmas
+pub mod AfterLemmas
+pub mod NeedLemmas
+pub mod ThinningLaws

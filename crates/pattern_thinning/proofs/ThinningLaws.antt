@@ -1,0 +1,26 @@
+-- What the crates above may cite of the thinned graph.
+use Rattle.std.proofs.Common.{◌≡◌, false, ◌∙◌, sym, arith}
+use Rattle.std.proofs.lemmas.Bool.{both_ways}
+use Rattle.rcp_model.specs.Levels.{has_cycle}
+use Rattle.rcp_model.specs.Walk.{Graph}
+use Rattle.rcp_model.specs.Thinning.{thinned}
+use Rattle.task_graph.specs.Rows.{Rows, AreFeedsOf}
+use Rattle.pattern_thinning.proofs.AfterLemmas.{thinned_alike}
+use Rattle.pattern_thinning.proofs.AlikeLemmas.{cycle_there}
+use Rattle.pattern_thinning.proofs.NeedLemmas.{thinned_is_lean}
+
+-- the same cells feed the same cells as before
+pub thinned_feeds : (g : Graph) (rows : Rows) → AreFeedsOf g rows → AreFeedsOf (thinned g) rows
+thinned_feeds g rows are =
+    let alike = thinned_alike g in
+    record {
+      slots = are.slots ∙ sym alike.slots;
+      cells = are.cells ∙ sym alike.cells;
+      needs = λ slot cell from p q r.
+          are.needs slot cell from (omega (arith, p, alike.slots)) (omega (arith, q, alike.cells)) (omega (arith, r, alike.cells))
+          ∙ sym (alike.feeds slot from cell (omega (arith, p, alike.slots)) (omega (arith, r, alike.cells)) (omega (arith, q, alike.cells)));
+    }
+
+-- where there is no unvoted cycle, thinning leaves none
+pub thinned_none : (g : Graph) → has_cycle g ≡ false → has_cycle (thinned g) ≡ false
+thinned_none g none = (thinned_is_lean g (λ nodes cycle. both_ways (has_cycle g) none (cycle_there g nodes cycle))).none_found

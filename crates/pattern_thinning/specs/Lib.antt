@@ -1,0 +1,3 @@
+pub mod Reach
+pub mod Thinned
+pub mod Laws
