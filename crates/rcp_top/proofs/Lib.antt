@@ -2,6 +2,7 @@ mod FrameLemmas
 mod HistoryLemmas
 mod LineLemmas
 mod ThinLemmas
+mod PatternLemmas
 mod VoteLemmas
 mod CheckLemmas
 mod EndingLemmas

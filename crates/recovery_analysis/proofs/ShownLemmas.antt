@@ -64,10 +64,10 @@ length_unique g k l one other = elim (cases_lt k l) [
   ]
 ]
 
-cycle_there : (g : Graph) (nodes : List Node) → IsUnvotedCycle g nodes → has_cycle g ≡ true
+pub cycle_there : (g : Graph) (nodes : List Node) → IsUnvotedCycle g nodes → has_cycle g ≡ true
 cycle_there g nodes c = has_cycle_from g (at nodes 0) (level_of_core g (at nodes 0) (core_of_cycle g nodes c))
 
-no_cycle_there : (g : Graph) → ((nodes : List Node) → IsUnvotedCycle g nodes → ⊥) → has_cycle g ≡ false
+pub no_cycle_there : (g : Graph) → ((nodes : List Node) → IsUnvotedCycle g nodes → ⊥) → has_cycle g ≡ false
 no_cycle_there g none = elim (cases_Bool (has_cycle g)) [
   | inl some ↦ absurd (none (witness_cycle g) (witness_is_cycle g (witness_cycle g) (shown_cycle g some)))
   | inr no_ ↦ no_
