@@ -6,7 +6,7 @@ use Rattle.rcp_model.specs.declared.plan.PlanParts.{PlanParts}
 use Rattle.rcp_model.specs.Uniprocessor.{ideal_state, ideal_command}
 use Rattle.uniproc_layer.specs.Uni.{Processor, StandsAfter}
 use Rattle.rcp_top.specs.Lines.{end_line}
-use Rattle.rcp_top.specs.Outcome.{frame_text, frames_text, ideal_text}
+use Rattle.rcp_top.specs.RunText.{frame_text, frames_text, ideal_text}
 
 -- the first t of these, the newest first
 abbrev pub behind : {X : Type 0} → List X → ℕ → List X

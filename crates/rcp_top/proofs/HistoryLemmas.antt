@@ -9,7 +9,7 @@ use Rattle.rcp_model.specs.FrameRows.{FrameRows, History, AreRowsOf, no_rows, pa
 use Rattle.layer_stack.specs.Inputs.{IsHistoryOf, CanFill, sensors_after}
 use Rattle.fault_journal.specs.declared.journal.Journal.{Journal}
 use Rattle.fault_journal.specs.Telling.{Tells, history_in}
-use Rattle.rcp_top.specs.Outcome.{sensors_in}
+use Rattle.rcp_top.specs.RunText.{sensors_in}
 use Rattle.rcp_top.proofs.FrameLemmas.{behind_more}
 
 -- rows of the plan, which hold the sensors behind t frames of the history

@@ -2,7 +2,7 @@
 use Rattle.std.proofs.Common.{◌≡◌, ℕ, ℤ, ◌+◌, ◌<◌, List, ◌++◌, length, get_or, drop}
 use Rattle.rcp_model.specs.declared.plan.ActuatorRow.{ActuatorRow}
 use Rattle.rcp_top.specs.Lines.{vote_line}
-use Rattle.rcp_top.specs.Outcome.{vote_lines}
+use Rattle.rcp_top.specs.RunText.{vote_lines}
 use Rattle.rcp_top.proofs.LineLemmas.{next_lines}
 
 pub votes_at : (actuators : List ActuatorRow) (command : ActuatorRow → ℤ) (k : ℕ) (actuator : ActuatorRow)

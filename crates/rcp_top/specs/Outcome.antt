@@ -1,16 +1,14 @@
 -- What a call is to answer and to write, over the words and the files.
-use Rattle.std.specs.Prelude.{ℕ, ◌-◌, ℤ, List, [], ◌∷◌, ◌++◌, length, map, flat_map, Option, Some, None, Result, Ok, Err, if◌then◌else◌}
+use Rattle.std.specs.Prelude.{ℕ, ◌-◌, List, Option, Some, None, Result, Ok, Err, if◌then◌else◌}
 use Rattle.rcp_base.specs.Files.{Files}
 use Rattle.rcp_model.specs.declared.node.Node.{Node}
-use Rattle.rcp_model.specs.declared.plan.ActuatorRow.{ActuatorRow}
 use Rattle.rcp_model.specs.declared.plan.PlanParts.{PlanParts}
-use Rattle.rcp_model.specs.FrameRows.{FrameRows, History}
+use Rattle.rcp_model.specs.FrameRows.{History}
 use Rattle.rcp_model.specs.Levels.{has_cycle}
 use Rattle.rcp_model.specs.PlanGraph.{graph_of_plan, voted_count}
 use Rattle.rcp_model.specs.Shown.{recovery_length, witness_walk, witness_cycle}
 use Rattle.rcp_model.specs.Thinning.{thinned}
 use Rattle.rcp_model.specs.Walk.{Graph}
-use Rattle.rcp_model.specs.Uniprocessor.{ProcessorState, ideal_state, ideal_command}
 use Rattle.task_file.specs.declared.fault.FileFault.{FileFault}
 use Rattle.task_file.specs.Verdict.{Verdict}
 use Rattle.task_file.specs.TaskFile.{task_file_verdict}
@@ -23,35 +21,13 @@ use Rattle.rcp_top.specs.declared.status.Status.{Status}
 use Rattle.rcp_top.specs.declared.status.Status.TheVariants as status
 use Rattle.rcp_top.specs.Forms.{Form, Wanted, form_of}
 use Rattle.rcp_top.specs.PatternLines.{pattern_refused_line, check_text, thin_text}
-use Rattle.rcp_top.specs.Lines.{frame_line, vote_line, ideal_line, end_line, unreadable_line, usage_line, task_refused_line, journal_refused_line}
+use Rattle.rcp_top.specs.Lines.{unreadable_line, usage_line, task_refused_line, journal_refused_line}
+use Rattle.rcp_top.specs.RunText.{ideal_text, sensors_in}
 
 -- a status and a text
 pub record Outcome : Type 0 where
   pub status : Status
   pub text : List ℕ
-
--- a line for each actuator, with its command
-abbrev pub vote_lines : List ActuatorRow → (ActuatorRow → ℤ) → List ℕ
-vote_lines actuators command = flat_map (λ (actuator : ActuatorRow). vote_line actuator.name (command actuator)) actuators
-
--- the lines of frame t, by the commands and the state behind it
-unfoldable pub frame_text : ℕ → List ActuatorRow → (ActuatorRow → ℤ) → ProcessorState → List ℕ
-frame_text t actuators command state = frame_line t ++ (vote_lines actuators command ++ ideal_line state)
-
--- the lines of the frames with these sensors, oldest first, which follow the frames past
-unfoldable pub frames_text : PlanParts → List (List ℤ) → List (List ℤ) → List ℕ
-frames_text plan past [] = []
-frames_text plan past (sensors ∷ frames) =
-    frame_text (length past) plan.actuators (λ actuator. ideal_command plan actuator sensors past) (ideal_state plan (sensors ∷ past))
-    ++ frames_text plan (sensors ∷ past) frames
-
--- the text of the single processor over the sensors of all frames, oldest first
-unfoldable pub ideal_text : PlanParts → List (List ℤ) → List ℕ
-ideal_text plan frames = frames_text plan [] frames ++ end_line (length frames)
-
--- the sensor values of each frame
-abbrev pub sensors_in : History → List (List ℤ)
-sensors_in history = map (λ (rows : FrameRows). rows.sensors) history
 
 -- the words are no form
 abbrev pub usage : Outcome

@@ -9,7 +9,7 @@ ghost use Rattle.rcp_model.specs.Uniprocessor as uniprocessor;
 ghost use Rattle.rcp_model.specs.declared.plan.ActuatorRow.{ActuatorRow};
 ghost use Rattle.rcp_model.specs.declared.plan.PlanParts.{PlanParts};
 ghost use Rattle.uniproc_layer.specs.Uni.{StandsAfter};
-ghost use Rattle.rcp_top.specs.Outcome as spec;
+ghost use Rattle.rcp_top.specs.RunText as spec;
 
 use crate::lines::{end_line, frame_line, ideal_line, vote_line};
 use crate::send::send;

@@ -4,7 +4,7 @@ use Rattle.std.proofs.lemmas.Result.{err_from_is_err_and}
 use Rattle.rcp_base.proofs.WritingLaws.{progress_start, progress_more, progress_stop, progress_last}
 use Rattle.rcp_model.specs.FrameRows.{FrameRows}
 use Rattle.rcp_top.specs.Lines.{end_line}
-use Rattle.rcp_top.specs.Outcome.{sensors_in}
+use Rattle.rcp_top.specs.RunText.{sensors_in}
 use Rattle.rcp_top.proofs.FrameLemmas.{behind, next_frame, rest_at_start, rest_at, rest_at_end, stands_behind, progress_as}
 use Rattle.rcp_top.proofs.HistoryLemmas.{before_the_first, can_fill_at, is_there, behind_the_next, as_many, sensors_there}
 use Rattle.rcp_top.proofs.ideal.run_frames.Goals as goal

@@ -4,7 +4,7 @@ use Rattle.rcp_base.specs.Writing.{Progress}
 use Rattle.rcp_model.specs.FrameRows.{History}
 use Rattle.layer_stack.specs.Inputs.{IsHistoryOf}
 use Rattle.uniproc_layer.specs.Uni.{StandsAfter}
-use Rattle.rcp_top.specs.Outcome.{ideal_text, sensors_in}
+use Rattle.rcp_top.specs.RunText.{ideal_text, sensors_in}
 use Rattle.rcp_top.proofs.FrameLemmas.{behind, rest_of}
 use Rattle.rcp_top.proofs.HistoryLemmas.{AreBehind}
 use Rattle.rcp_top.proofs.ideal.run_frames.Given as goal

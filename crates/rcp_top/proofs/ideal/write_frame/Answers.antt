@@ -5,7 +5,7 @@ use Rattle.rcp_base.proofs.WritingLaws.{progress_start, progress_more, progress_
 use Rattle.rcp_model.specs.Uniprocessor.{ProcessorState, ideal_command, ideal_state}
 use Rattle.rcp_model.specs.declared.plan.ActuatorRow.{ActuatorRow}
 use Rattle.rcp_top.specs.Lines.{frame_line, ideal_line}
-use Rattle.rcp_top.specs.Outcome.{frame_text, vote_lines}
+use Rattle.rcp_top.specs.RunText.{frame_text, vote_lines}
 use Rattle.rcp_top.proofs.ideal.write_frame.Goals as goal
 
 pub returns-in_err-send : goal.returns-in_err-send

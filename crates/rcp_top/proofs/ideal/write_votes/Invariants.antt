@@ -3,7 +3,7 @@ use Rattle.std.proofs.Common.{ℤ, List, ◌∷◌, drop}
 use Rattle.rcp_base.specs.Writing.{Progress}
 use Rattle.rcp_model.specs.Uniprocessor.{ideal_command}
 use Rattle.uniproc_layer.specs.Uni.{StandsAfter}
-use Rattle.rcp_top.specs.Outcome.{vote_lines}
+use Rattle.rcp_top.specs.RunText.{vote_lines}
 use Rattle.rcp_top.proofs.ideal.write_votes.Given as goal
 
 abbrev pub invariant-loop-number : goal.invariant-loop-number
