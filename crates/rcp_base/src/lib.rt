@@ -51,6 +51,9 @@ pub const MAX_BODY: usize = 4_096;
 /// The most brackets and prefix operators that enclose a token.
 pub const MAX_NESTING: usize = 64;
 
+/// The greatest limit on a recovery length: one node more than the most slots have of the most cells.
+pub const MAX_RECOVERY: u32 = 2_049;
+
 /// The most frames of a journal.
 pub const MAX_FRAMES: u32 = 1_000_000;
 

@@ -1,6 +1,6 @@
 -- Two plans that the examples run: one moves a motor to a commanded position, the other counts frames.
 use Rattle.std.proofs.Common.{ℕ, List, [], ◌∷◌, pos}
-use Rattle.std.specs.Prelude.{codes}
+use Rattle.std.specs.Prelude.{codes, None}
 use Rattle.rcp_model.specs.declared.expr.Expr.{Expr}
 use Rattle.rcp_model.specs.declared.expr.Expr.TheVariants as expr
 use Rattle.rcp_model.specs.declared.expr.Op.TheVariants as op
@@ -74,6 +74,8 @@ motor_plan = record {
       ∷ record { tasks = 2 ∷ []; votes = position_cell ∷ [] }
       ∷ [];
   actuators = record { name = codes "motor"; value = motor_value } ∷ [];
+  medians = [];
+  recovery_limit = None;
 }
 
 -- the cell of the counter plan
@@ -87,9 +89,9 @@ count_value = expr.Two op.Add (expr.Cell number_cell) (expr.Number (pos 1))
 abbrev pub out_value : Expr
 out_value = expr.Cell number_cell
 
--- so many replicas; the one slot counts and votes the number
-abbrev pub counter_plan_of : ℕ → PlanParts
-counter_plan_of replicas = record {
+-- so many replicas; the one slot counts and votes the number, by the median where that is named
+abbrev pub counter_plan_voting : List ℕ → ℕ → PlanParts
+counter_plan_voting medians replicas = record {
   replicas = replicas;
   timing = example_timing;
   sensors = [];
@@ -97,7 +99,12 @@ counter_plan_of replicas = record {
   tasks = sets_one (codes "count") number_cell count_value ∷ [];
   slots = record { tasks = 0 ∷ []; votes = number_cell ∷ [] } ∷ [];
   actuators = record { name = codes "out"; value = out_value } ∷ [];
+  medians = medians;
+  recovery_limit = None;
 }
+
+abbrev pub counter_plan_of : ℕ → PlanParts
+counter_plan_of replicas = counter_plan_voting [] replicas
 
 abbrev pub counter_plan : PlanParts
 counter_plan = counter_plan_of 3

@@ -1,8 +1,9 @@
 -- What a plan keeps: every rule of a task file but that of its vote pattern.
 -- After NASA TM-102716; names, lengths and limits are this project's own.
-use Rattle.std.specs.Prelude.{ℕ, ◌<◌, ◌≤◌, ◌≡◌, ◌≢◌, pos, Bool, true, ◌&&◌, nat_lt, int_le, List, ◌++◌, length, map, slice_index_or, All, AllPairs}
+use Rattle.std.specs.Prelude.{ℕ, ◌<◌, ◌≤◌, ◌≡◌, ◌≢◌, pos, Bool, true, ◌&&◌, nat_lt, int_le, List, ◌++◌, length, map, slice_index_or, All, AllPairs, Option, IfSome}
 use Rattle.std.specs.List.{list_all}
 use Rattle.rcp_base.specs.Name.{is_name}
+use Rattle.rcp_base.specs.declared.TheConstants.{MAX_REPLICAS, MAX_SENSORS, MAX_CELLS, MAX_TASKS, MAX_SLOTS, MAX_ACTUATORS, MAX_RECOVERY}
 use Rattle.rcp_model.specs.declared.expr.Expr.{Expr, fold-Expr}
 use Rattle.rcp_model.specs.declared.expr.Expr.TheOpen.{Expr-F}
 use Rattle.rcp_model.specs.declared.task.LetRow.{LetRow}
@@ -60,8 +61,8 @@ SetApart tasks = AllPairs (λ a b. All (λ x. All (λ y. x.cell ≢ y.cell) b.se
 
 -- a slot of so many tasks and cells: at most 128 tasks and 64 votes, none of which stands twice
 pub record IsSlotOver (tasks : List Task) (cells : ℕ) (slot : SlotRow) : Type 0 where
-  pub few_tasks : length slot.tasks ≤ 128
-  pub few_votes : length slot.votes ≤ 64
+  pub few_tasks : length slot.tasks ≤ MAX_TASKS
+  pub few_votes : length slot.votes ≤ MAX_CELLS
   pub tasks_there : All (λ number. number < length tasks) slot.tasks
   pub votes_there : All (λ number. number < cells) slot.votes
   pub tasks_distinct : AllPairs (λ a b. a ≢ b) slot.tasks
@@ -73,20 +74,31 @@ pub record AreUpTo {X : Type 0} (most : ℕ) (xs : List X) : Type 0 where
   pub some : 1 ≤ length xs
   pub few : length xs ≤ most
 
+-- the numbers of cells that are voted by the median, rising
+pub record AreMedians (cells : ℕ) (medians : List ℕ) : Type 0 where
+  pub there : All (λ cell. cell < cells) medians
+  pub rising : AllPairs (λ a b. a < b) medians
+
+-- a limit on the recovery length, or none
+abbrev pub IsRecoveryLimit : Option ℕ → Type 0
+IsRecoveryLimit limit = IfSome limit (λ nodes. (1 ≤ nodes) × (nodes ≤ MAX_RECOVERY))
+
 -- the parts keep every rule of a task file but that of the vote pattern
 pub record IsPlan (parts : PlanParts) : Type 0 where
   pub some_replicas : 1 ≤ parts.replicas
-  pub few_replicas : parts.replicas ≤ 9
+  pub few_replicas : parts.replicas ≤ MAX_REPLICAS
   pub timing_range : AreInRange parts.timing
   pub timing_rules : KeepsRules parts.timing
-  pub sensors : length parts.sensors ≤ 64
-  pub cells : AreUpTo 64 parts.cells
-  pub tasks : AreUpTo 128 parts.tasks
-  pub slots : AreUpTo 32 parts.slots
-  pub actuators : length parts.actuators ≤ 32
+  pub sensors : length parts.sensors ≤ MAX_SENSORS
+  pub cells : AreUpTo MAX_CELLS parts.cells
+  pub tasks : AreUpTo MAX_TASKS parts.tasks
+  pub slots : AreUpTo MAX_SLOTS parts.slots
+  pub actuators : length parts.actuators ≤ MAX_ACTUATORS
   pub variables : AreNames (variable_names parts.sensors ++ variable_names parts.cells)
   pub task_names : AreNames (map (λ task. task.name) parts.tasks)
   pub actuator_names : AreNames (actuator_names parts.actuators)
   pub each_task : All (IsTaskOver (variable_names parts.sensors) (variable_names parts.cells)) parts.tasks
   pub each_slot : All (IsSlotOver parts.tasks (length parts.cells)) parts.slots
   pub each_value : All (λ actuator. is_over (length parts.sensors) (length parts.cells) 0 actuator.value ≡ true) parts.actuators
+  pub medians : AreMedians (length parts.cells) parts.medians
+  pub limit : IsRecoveryLimit parts.recovery_limit

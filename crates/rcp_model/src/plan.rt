@@ -53,4 +53,8 @@ pub struct PlanParts {
     pub tasks: List<Task>,
     pub slots: List<SlotRow>,
     pub actuators: List<ActuatorRow>,
+    /// The cells that are voted by the median, rising; the others are voted by the majority.
+    pub medians: List<u16>,
+    /// The number of nodes that no unvoted walk is to have after thinning.
+    pub recovery_limit: Option<u32>,
 }
