@@ -1,6 +1,6 @@
 -- A graph of two slots and two cells: the first slot copies the first cell to the second, and the other leaves both alone.
 -- This project's own.
-use Rattle.std.proofs.Common.{◌≡◌, refl, ℕ, ◌==◌, true, false, Bool, [], ◌∷◌}
+use Rattle.std.proofs.Common.{◌≡◌, refl, None, ℕ, ◌==◌, true, false, Bool, [], ◌∷◌}
 use Rattle.std.specs.Prelude.{◌&&◌, if◌then◌else◌}
 use Rattle.rcp_model.specs.declared.node.Node.{Node}
 use Rattle.rcp_model.specs.Walk.{Graph}
@@ -46,10 +46,10 @@ unfolding level
 it_has_no_cycle = refl
 
 -- of all four votes that one is kept, although it is not tried first
-thinning_clears_the_first_slot : voted_at (thinned (voting everything)) 0 ≡ []
+thinning_clears_the_first_slot : voted_at (thinned None (voting everything)) 0 ≡ []
 unfolding level thinned voted_at
 thinning_clears_the_first_slot = refl
 
-thinning_keeps_one_vote : voted_at (thinned (voting everything)) 1 ≡ 0 ∷ []
+thinning_keeps_one_vote : voted_at (thinned None (voting everything)) 1 ≡ 0 ∷ []
 unfolding level thinned voted_at
 thinning_keeps_one_vote = refl
