@@ -3,3 +3,7 @@ pub mod WritingLaws
 pub mod TableLaws
 pub mod SearchLaws
 pub mod BitLaws
+pub mod FillLaws
+pub mod CountLaws
+pub mod MajorityLaws
+pub mod MedianLaws

@@ -9,6 +9,8 @@ pub mod Calls
 pub mod MemFolder
 pub mod MemSink
 pub mod Majority
+pub mod Median
+pub mod Filling
 pub mod Message
 pub mod Search
 pub mod Bits
