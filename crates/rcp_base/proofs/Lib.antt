@@ -1,5 +1,7 @@
 mod NamePadding
 pub mod WritingLaws
+pub mod AddingLaws
+pub mod StateLaws
 pub mod TableLaws
 pub mod SearchLaws
 pub mod BitLaws

@@ -1,4 +1,4 @@
--- Calls that are counted from 1, and those of them that are to fail.
+-- Calls that are counted from 1, and those of them that are to fail. This project's own.
 use Rattle.std.specs.Prelude.{ℕ, ◌+◌, ◌-◌, ◌^◌, ◌==◌, min, nat_lt, List, [], ◌∷◌, ◌++◌, Option, None, option_map, is_some, if◌then◌else◌}
 use Rattle.std.specs.List.{find}
 use Rattle.rcp_base.specs.declared.calls.Failure.{Failure}

@@ -1,8 +1,6 @@
--- What a folder holds, what a read answers, and when a call may fail.
-use Rattle.std.specs.Prelude.{◌≡◌, ◌⊎◌, ℕ, ◌+◌, ◌-◌, ◌^◌, ◌<◌, ◌≤◌, min, List, length, ⊤, Option, Some, None, Result, Ok, Err, if◌then◌else◌}
+-- The files of a folder, and counts of faults. This project's own.
+use Rattle.std.specs.Prelude.{◌≡◌, ℕ, ◌+◌, ◌-◌, ◌^◌, ◌<◌, ◌≤◌, min, List, length, ⊤, Option, Some, None, if◌then◌else◌}
 use Rattle.std.specs.Str.{bytes_eq}
-use Rattle.rcp_base.specs.declared.folder.ReadError.{ReadError}
-use Rattle.rcp_base.specs.declared.folder.ReadError.TheVariants as read
 
 -- the bytes under each name
 abbrev pub Files : Type 0
@@ -31,10 +29,3 @@ pub record IsLonger (files : Files) (name : List ℕ) (limit : ℕ) : Type 0 whe
   pub bytes : List ℕ
   pub held : files name ≡ Some bytes
   pub longer : limit < length bytes
-
--- what a read leaves behind each answer, where the count of faults goes from before to now
-abbrev pub Reads : {T : Type 0} → Option Files → List ℕ → ℕ → ℕ → ℕ → Result T ReadError → List ℕ → Type 0
-Reads told name limit before now (Ok _) bytes = (length bytes ≤ limit) × IfTold told (λ files. files name ≡ Some bytes)
-Reads told name limit before now (Err read.TooLong) bytes = (limit < length bytes) × IfTold told (λ files. IsLonger files name limit)
-Reads told name limit before now (Err read.Failed) bytes = Rises before now ⊎ IsMissing told name
-Reads told name limit before now (Err read.Memory) bytes = ⊤

@@ -3,7 +3,9 @@ pub mod Name
 pub mod NameFields
 pub mod Files
 pub mod SureFolder
+pub mod States
 pub mod Writing
+pub mod Adding
 pub mod Tables
 pub mod Calls
 pub mod MemFolder

@@ -1,4 +1,4 @@
--- How a name is kept: its bytes, and zeros up to 32.
+-- How a name is kept: its bytes, and zeros up to 32. This project's own.
 use Rattle.std.specs.Prelude.{ℕ, ◌≡◌, ◌≤◌, ◌-◌, List, ◌++◌, take, length, replicate}
 use Rattle.std.proofs.Common.{sym, ap, ◌∙◌, arith}
 use Rattle.std.proofs.lemmas.List.{length-take-le}

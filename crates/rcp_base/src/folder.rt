@@ -1,7 +1,7 @@
 //! The folder that files are read from.
 //! This project's own.
-ghost use Rattle.std.specs.Prelude.{◌≡◌, ◌≤◌, ℕ, [], Option};
-ghost use Rattle.rcp_base.specs.Files.{Files, Reads};
+ghost use Rattle.std.specs.Prelude.{◌≡◌, []};
+ghost use Rattle.rcp_base.specs.States.{FolderState, IsLater, Reads};
 
 use std::alloc::Global;
 
@@ -12,17 +12,13 @@ pub enum ReadError {
     Failed,
     /// The file has more bytes than the limit.
     TooLong,
-    /// Memory was wanting.
+    /// Out of memory.
     Memory,
 }
 
 /// A folder, by the files that it holds and by how often it has failed.
 pub trait Folder {
-    /// The bytes under each name, where the folder tells them.
-    ghost files: { Self → Option Files };
-
-    /// How often it has failed.
-    ghost faults: { Self → ℕ };
+    ghost state: { Self → FolderState };
 
     /// Reads a file of at most `limit` bytes. After `Failed` or `Memory`, `into` may hold anything.
     fn read(
@@ -33,7 +29,7 @@ pub trait Folder {
         into: &mut Vec<u8>,
     ) -> Result<(), ReadError>
         requires { into.old.items ≡ [] }
-        ensures reads { Reads (files self.old) name.now limit (faults self.old) (faults self.new) result into.new.items }
-        ensures files { files self.new ≡ files self.old }
-        ensures later { faults self.old ≤ faults self.new };
+        ensures reads { Reads (state self.old) (state self.new) name.now limit
+            result into.new.items }
+        ensures later { IsLater (state self.old) (state self.new) };
 }

@@ -3,14 +3,14 @@
 ghost use Rattle.std.specs.Prelude.{◌≡◌, [], ◌++◌, take, Some, OnOk, OnErr};
 ghost use Rattle.rcp_base.specs.Calls.{no_calls, with_failure, next_failure, after_call};
 ghost use Rattle.rcp_base.specs.Writing.{AppendsFront, Writes};
-ghost use Rattle.rcp_base.specs.MemSink.{WritesBy};
+ghost use Rattle.rcp_base.specs.MemSink.{WritesBy, memory_sink_state};
 
 use crate::calls::Calls;
 use crate::{Memory, Sink, SureSink, WriteError};
 use std::alloc::Global;
 use std::marker::Model;
 
-/// What was written, in memory. A write fails where its call is listed, and for want of memory.
+/// What was written, in memory. A write fails where its call is listed, and where memory runs out.
 #[derive(Drop)]
 pub struct MemSink {
     written: SureSink,
@@ -18,17 +18,17 @@ pub struct MemSink {
 }
 
 impl Model for MemSink {
-    ghost use Rattle.rcp_base.specs.MemSink.{SinkState};
+    ghost use Rattle.rcp_base.specs.MemSink.{MemoryState};
 
-    ghost Value = { SinkState };
+    ghost Value = { MemoryState };
 
-    ghost view = { λ sink. record { written = sink.written; calls = sink.calls } };
+    ghost view = { λ sink. record { bytes = sink.written; calls = sink.calls } };
 }
 
 impl MemSink {
     /// A sink without a byte, in which no call is listed.
     pub fn new(alloc: Global) -> MemSink
-        ensures { result ≡ record { written = []; calls = no_calls } }
+        ensures { result ≡ record { bytes = []; calls = no_calls } }
     {
         MemSink {
             written: SureSink::new(alloc),
@@ -36,7 +36,7 @@ impl MemSink {
         }
     }
 
-    /// Lists a call of `write_all` that is to fail behind the first `after` bytes of its piece.
+    /// Lists a call of `write_all` that is to fail after the first `after` bytes of its piece.
     /// The first call is number 1. Of two entries for one call the first counts.
     pub fn fail_at(&mut self, call: u32, after: u32) -> Result<(), Memory>
         ensures ok { OnOk result
@@ -48,24 +48,22 @@ impl MemSink {
 
     /// What was written so far.
     pub fn bytes(&self) -> &[u8]
-        ensures { result.now ≡ self.now.written }
+        ensures { result.now ≡ self.now.bytes }
     {
         self.written.bytes()
     }
 }
 
 impl Sink for MemSink {
-    ghost written = { λ sink. Some sink.written };
-
-    ghost faults = { λ sink. sink.calls.faults };
+    ghost state = { memory_sink_state };
 
     fn write_all(&mut self, bytes: &[u8]) -> Result<(), WriteError>
-        ensures writes { Writes (Some self.old.written) (Some self.new.written)
-            self.old.calls.faults self.new.calls.faults result bytes.now }
+        ensures writes { Writes (memory_sink_state self.old) (memory_sink_state self.new)
+            result bytes.now }
 
         // Beside the trait's clause: it fails at its listed calls alone.
         ensures outcome { WritesBy (next_failure self.old.calls)
-            self.old.written self.new.written result bytes.now }
+            self.old.bytes self.new.bytes result bytes.now }
         ensures calls { self.new.calls ≡ after_call self.old.calls }
     {
         let Some(after) = self.calls.next() else {

@@ -1,8 +1,8 @@
-//! Want of memory, an error of its own in every call that has it.
+//! Out of memory, an error of its own in every call that has it.
 //! This project's own.
 use std::alloc::{AllocError, AllocFailed};
 
-/// Memory was wanting.
+/// Out of memory.
 #[derive(Clone, Copy, Debug, PartialEq, Eq)]
 pub struct Memory;
 

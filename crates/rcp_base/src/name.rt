@@ -48,7 +48,8 @@ impl Name {
     }
 
     pub fn bytes(&self) -> &[u8]
-        ensures { result.now ≡ self.now }
+        ensures all { result.now ≡ self.now }
+        ensures short { length result.now ≤ 32 }
     {
         &self.padded[..self.len as usize]
     }

@@ -1,6 +1,6 @@
 //! The sink that text is written to.
 //! This project's own.
-ghost use Rattle.std.specs.Prelude.{ℕ, List, Option};
+ghost use Rattle.rcp_base.specs.States.{SinkState};
 ghost use Rattle.rcp_base.specs.Writing.{Writes};
 
 use crate::Memory;
@@ -10,7 +10,7 @@ use crate::Memory;
 pub enum WriteError {
     /// The sink failed.
     Failed,
-    /// Memory was wanting.
+    /// Out of memory.
     Memory,
 }
 
@@ -27,13 +27,9 @@ impl From<Memory> for WriteError {
 
 /// A sink, by what was written to it and by how often it has failed.
 pub trait Sink {
-    /// The bytes written so far, where the sink tells them.
-    ghost written: { Self → Option (List ℕ) };
-
-    /// How often it has failed.
-    ghost faults: { Self → ℕ };
+    ghost state: { Self → SinkState };
 
     /// Writes all the bytes, or a front of them.
     fn write_all(&mut self, bytes: &[u8]) -> Result<(), WriteError>
-        ensures { Writes (written self.old) (written self.new) (faults self.old) (faults self.new) result bytes.now };
+        ensures { Writes (state self.old) (state self.new) result bytes.now };
 }

@@ -1,13 +1,14 @@
 //! A folder in memory that never fails.
 //! This project's own.
 ghost use Rattle.std.specs.Prelude.{◌≡◌, List, ℕ, [], OnOk, OnErr};
-ghost use Rattle.rcp_base.specs.Files.{with_file, Reads};
+ghost use Rattle.rcp_base.specs.Files.{with_file};
+ghost use Rattle.rcp_base.specs.States.{Reads};
 
 use crate::{Folder, Memory, ReadError};
 use std::alloc::Global;
 use std::collections::BTreeMap;
 
-/// Files in memory, whose reads fail only for want of memory or of the name.
+/// Files in memory, whose reads fail only where memory runs out or no file has the name.
 #[derive(Drop)]
 pub struct SureFolder {
     alloc: Global,
@@ -15,11 +16,11 @@ pub struct SureFolder {
 }
 
 impl SureFolder {
-    ghost use Rattle.rcp_base.specs.SureFolder.{files_of};
+    ghost use Rattle.rcp_base.specs.SureFolder.{sure_files, sure_folder_state};
 
     /// A folder without a file.
     pub fn new(alloc: Global) -> SureFolder
-        ensures { (name : List ℕ) → files_of result name ≡ None }
+        ensures { (name : List ℕ) → sure_files result name ≡ None }
     {
         SureFolder {
             alloc,
@@ -29,8 +30,10 @@ impl SureFolder {
 
     /// Puts these bytes under this name, in place of what is there.
     pub fn put(&mut self, name: &str, bytes: &[u8]) -> Result<(), Memory>
-        ensures ok { OnOk result ((other : List ℕ) → files_of self.new other ≡ with_file (files_of self.old) name.now bytes.now other) }
-        ensures err { OnErr result ((other : List ℕ) → files_of self.new other ≡ files_of self.old other) }
+        ensures ok { OnOk result ((other : List ℕ) →
+            sure_files self.new other ≡ with_file (sure_files self.old) name.now bytes.now other) }
+        ensures err { OnErr result ((other : List ℕ) →
+            sure_files self.new other ≡ sure_files self.old other) }
     {
         let name = String::from_str(self.alloc, name)?;
         let bytes = bytes.to_vec(self.alloc)?;
@@ -46,8 +49,9 @@ impl SureFolder {
         into: &mut Vec<u8>,
     ) -> Result<(), ReadError>
         requires { into.old.items ≡ [] }
-        ensures reads { Reads (Some (files_of self.now)) name.now limit 0 0 result into.new.items }
-        ensures missing { files_of self.now name.now ≡ None → result ≡ Err ReadError.Failed }
+        ensures reads { Reads (sure_folder_state self.now) (sure_folder_state self.now)
+            name.now limit result into.new.items }
+        ensures missing { sure_files self.now name.now ≡ None → result ≡ Err ReadError.Failed }
     {
         let Some(bytes) = self.held.get(name) else {
             return Err(ReadError::Failed);
@@ -63,12 +67,9 @@ impl SureFolder {
 }
 
 impl Folder for SureFolder {
-    ghost use Rattle.std.specs.Prelude.{Some};
-    ghost use Rattle.rcp_base.specs.SureFolder.{files_of};
+    ghost use Rattle.rcp_base.specs.SureFolder.{sure_folder_state};
 
-    ghost files = { λ folder. Some (files_of folder) };
-
-    ghost faults = { λ _. 0 };
+    ghost state = { sure_folder_state };
 
     fn read(
         &mut self,

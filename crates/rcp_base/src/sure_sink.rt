@@ -6,7 +6,7 @@ use crate::{Memory, Sink, WriteError};
 use std::alloc::Global;
 use std::marker::Model;
 
-/// What was written, in memory. A write fails only for want of memory. Contracts see it as the bytes written.
+/// What was written, in memory. A write fails only where memory runs out. Contracts see it as the bytes written.
 #[derive(Drop)]
 pub struct SureSink {
     bytes: Vec<u8>,
@@ -36,7 +36,7 @@ impl SureSink {
         self.bytes.as_slice()
     }
 
-    /// Writes these bytes behind what was written so far.
+    /// Writes these bytes after what was written so far.
     pub(crate) fn append(&mut self, bytes: &[u8]) -> Result<(), Memory>
         ensures ok { OnOk result (self.new ≡ self.old ++ bytes.now) }
         ensures err { OnErr result (self.new ≡ self.old) }
@@ -49,9 +49,7 @@ impl SureSink {
 impl Sink for SureSink {
     ghost use Rattle.std.specs.Prelude.{Some};
 
-    ghost written = { λ sink. Some sink };
-
-    ghost faults = { λ _. 0 };
+    ghost state = { λ sink. record { written = Some sink; faults = 0 } };
 
     fn write_all(&mut self, bytes: &[u8]) -> Result<(), WriteError> {
         self.append(bytes)?;

@@ -1,7 +1,7 @@
 //! Each public call once, with values worked by hand from the rules.
 //! This project's own.
 ghost use Rattle.std.specs.Prelude.{◌≡◌, IfOk};
-ghost use Rattle.rcp_base.specs.MemFolder.{faults_of};
+ghost use Rattle.rcp_base.specs.MemFolder.{memory_folder_state};
 
 use crate::{
     Folder, List, MemFolder, MemSink, Memory, Name, ReadError, Sink, SureFolder, SureSink,
@@ -132,7 +132,7 @@ fn a_folder_fails_at_its_listed_calls(rt: HostRuntime) -> Result<(), Fail> {
 
 /// Reads a missing name twice, the second time at a listed call, which alone is a fault.
 fn folder_after_one_fault(alloc: Global) -> Result<MemFolder, Memory>
-    ensures { IfOk result (λ folder. faults_of folder ≡ 1) }
+    ensures { IfOk result (λ folder. (memory_folder_state folder).faults ≡ 1) }
 {
     let mut folder = MemFolder::new(alloc);
     folder.fail_at(2)?;
