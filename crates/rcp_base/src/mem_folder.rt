@@ -34,7 +34,7 @@ impl MemFolder {
     pub fn put(&mut self, name: &str, bytes: &[u8]) -> Result<(), Memory>
         ensures ok { OnOk result ((other : List ℕ) →
             memory_files self.new other
-                ≡ with_file (memory_files self.old) name.now bytes.now other) }
+            ≡ with_file (memory_files self.old) name.now bytes.now other) }
         ensures err { OnErr result ((other : List ℕ) →
             memory_files self.new other ≡ memory_files self.old other) }
         ensures calls { memory_calls self.new ≡ memory_calls self.old }
