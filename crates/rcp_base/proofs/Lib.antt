@@ -9,3 +9,4 @@ pub mod FillLaws
 pub mod CountLaws
 pub mod MajorityLaws
 pub mod MedianLaws
+pub mod ReaderLaws

@@ -16,3 +16,4 @@ pub mod Filling
 pub mod Message
 pub mod Search
 pub mod Bits
+pub mod Answers
