@@ -8,10 +8,10 @@ use Rattle.rcp_model.specs.Thinning.{without, thinned_at, thinned_after, thinned
 use Rattle.task_graph.specs.Rows.{Rows, AreFeedsOf}
 use Rattle.vote_pattern.specs.Votes.{Votes, AreVotesOf}
 use Rattle.recovery_analysis.specs.Graphs.{graph_of, IsOneSize}
-use Rattle.recovery_analysis.specs.Levels.{make_node}
-use Rattle.recovery_analysis.proofs.CoreLemmas.{number-node_of}
+use Rattle.rcp_model.specs.Node.{make_node}
+use Rattle.rcp_model.proofs.CoreLaws.{number-node_of}
 use Rattle.pattern_thinning.specs.Thinned.{IsThinnedFor}
-use Rattle.pattern_thinning.proofs.AlikeLemmas.{IsAlike, alike_through}
+use Rattle.rcp_model.proofs.AlikeLaws.{IsAlike, alike_through}
 use Rattle.pattern_thinning.proofs.TryLemmas.{without_other, try_alike}
 
 -- the graph with or without a vote

@@ -10,8 +10,8 @@ use Rattle.rcp_base.proofs.SearchLaws.{both_or_none, any_found, any_of, none_any
 use Rattle.rcp_model.specs.declared.node.Node.{Node}
 use Rattle.rcp_model.specs.Walk.{Graph, IsUnvoted}
 use Rattle.rcp_model.specs.Levels.{is_unvoted}
-use Rattle.recovery_analysis.specs.Levels.{make_node}
-use Rattle.recovery_analysis.proofs.LevelLemmas.{is_unvoted_parts, is_unvoted_from}
+use Rattle.rcp_model.specs.Node.{make_node}
+use Rattle.rcp_model.proofs.LevelLaws.{is_unvoted_parts, is_unvoted_from}
 use Rattle.pattern_thinning.specs.Reach.{reaches, HasCellsOnly, is_next, AreNext}
 use Rattle.pattern_thinning.proofs.ReachLemmas.{reaches_self, reaches_zero, reaches_back, reaches_step, reaches_at}
 

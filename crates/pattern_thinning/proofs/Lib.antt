@@ -1,4 +1,3 @@
-pub mod AlikeLemmas
 pub mod ReachLemmas
 pub mod FrontierLemmas
 pub mod TryLemmas

@@ -9,10 +9,11 @@ use Rattle.rcp_model.specs.declared.node.Node.{Node}
 use Rattle.rcp_model.specs.Walk.{Graph, node_count, IsUnvotedCycle}
 use Rattle.rcp_model.specs.Levels.{number, node_of, has_cycle}
 use Rattle.rcp_model.specs.Thinning.{votes_without, without, thinned_at, thinned_after, thinned, IsRedundant}
-use Rattle.recovery_analysis.specs.Levels.{make_node}
-use Rattle.recovery_analysis.proofs.LevelLemmas.{node_of-number, number-injective}
+use Rattle.rcp_model.specs.Node.{make_node}
+use Rattle.rcp_model.proofs.LevelLaws.{node_of-number, number-injective}
 use Rattle.pattern_thinning.specs.Thinned.{IsLean, AreThinnedOf, HasCycleUnder, voting, votes_around}
-use Rattle.pattern_thinning.proofs.AlikeLemmas.{IsAlike, alike_turned, alike_through, cycle_there, cycle_from, none_there, has_still}
+use Rattle.rcp_model.proofs.ShownLaws.{cycle_found, cycle_from, none_found}
+use Rattle.rcp_model.proofs.AlikeLaws.{IsAlike, alike_turned, alike_through, has_still}
 use Rattle.pattern_thinning.proofs.TryLemmas.{without_here, without_other}
 use Rattle.pattern_thinning.proofs.AfterLemmas.{vote_after, after_alike, later_fewer, not_yet_tried, tried_before}
 
@@ -90,9 +91,9 @@ not_redundant g n r =
 pub thinned_is_lean : (g : Graph) → ((nodes : List Node) → IsUnvotedCycle g nodes → ⊥) → IsLean (thinned g)
 unfolding thinned
 thinned_is_lean g none =
-    let found = after_has_none g (none_there g none) (node_count g) in
+    let found = after_has_none g (none_found g none) (node_count g) in
     record {
-      no_cycle = λ nodes c. both_ways (has_cycle (thinned_after g (node_count g))) found (cycle_there (thinned_after g (node_count g)) nodes c);
+      no_cycle = λ nodes c. both_ways (has_cycle (thinned_after g (node_count g))) found (cycle_found (thinned_after g (node_count g)) nodes c);
       none_found = found;
       no_vote = not_redundant g;
     }
@@ -155,7 +156,7 @@ thinned_are_needed g = record {
             (stays_needed g n p q stays)),
         λ c. needed_stays g n p q voted (has_still around (without h n) to_h
             (λ r d x y e. sym (around_is g n p q r d y) ∙ e)
-            (cycle_there around c.0 c.1)),
+            (cycle_found around c.0 c.1)),
       );
 }
 
@@ -173,7 +174,7 @@ same_around g n one other same c =
         | inr here ↦ around_here g n other g.votes s c (omega arith)
       ]
     ])
-    (cycle_there a c.0 c.1))
+    (cycle_found a c.0 c.1))
 
 none_where_none : (g : Graph) (votes : ℕ → ℕ → Bool) → AreThinnedOf g votes → (s c : ℕ) → s < g.slots → c < g.cells → g.votes s c ≡ false → votes s c ≡ false
 none_where_none g votes t s c p q none = false_from_ne_true (votes s c) (λ e. both_ways (g.votes s c) none (t.part s c p q e))

@@ -6,12 +6,13 @@ use Rattle.rcp_base.proofs.SearchLaws.{both_or_none, any_found, any_of, any_none
 use Rattle.rcp_model.specs.declared.node.Node.{Node}
 use Rattle.rcp_model.specs.Walk.{Graph, at, node_count, IsUnvoted, StepsTo, IsUnvotedCycle}
 use Rattle.rcp_model.specs.Levels.{number, node_of, is_unvoted, steps_to, level, has_cycle}
-use Rattle.recovery_analysis.specs.Levels.{make_node}
-use Rattle.recovery_analysis.proofs.SearchLemmas.{pigeonhole}
-use Rattle.recovery_analysis.proofs.LevelLemmas.{node_of-number, number-lt, number-injective, is_unvoted_parts, is_unvoted_from, steps_to_parts, steps_to_from, level_zero, level_step, level_down}
-use Rattle.recovery_analysis.proofs.CoreLemmas.{has_cycle_from}
+use Rattle.rcp_model.specs.Node.{make_node}
+use Rattle.rcp_base.proofs.PigeonholeLaws.{pigeonhole}
+use Rattle.rcp_model.proofs.LevelLaws.{node_of-number, number-lt, number-injective, is_unvoted_parts, is_unvoted_from, steps_to_parts, steps_to_from, level_zero, level_step, level_down}
+use Rattle.rcp_model.proofs.CoreLaws.{has_cycle_from}
 use Rattle.pattern_thinning.specs.Reach.{reaches, comes_back}
-use Rattle.pattern_thinning.proofs.AlikeLemmas.{cycle_there, cycle_from, IsAlike, cycle_alike}
+use Rattle.rcp_model.proofs.ShownLaws.{cycle_found, cycle_from}
+use Rattle.rcp_model.proofs.AlikeLaws.{IsAlike, cycle_alike}
 
 pub reaches_self : (g : Graph) (x : Node) → reaches g x 0 x ≡ true
 unfolding reaches
@@ -130,7 +131,7 @@ cycle_is_return g h x a others u none = both_or_none (has_cycle h) (comes_back h
           let f = any_found (length nodes) (λ i. eqb (number h (at nodes i)) (number h x)) found in
           return_of_cycle h x nodes c.1 f.v f.below
           (number-injective h (at nodes f.v) x (c.1.walk.unvoted f.v f.below).cell_in u.cell_in (eqb-true _ _ f.passes))
-      | inr missing ↦ absurd (both_ways (has_cycle g) none (cycle_there g nodes (cycle_alike h g a nodes
+      | inr missing ↦ absurd (both_ways (has_cycle g) none (cycle_found g nodes (cycle_alike h g a nodes
           (λ i l. others (at nodes i)
           (λ e. eqb-false _ _ (any_none (length nodes) (λ i. eqb (number h (at nodes i)) (number h x)) missing i l) (ap (number h) e))
           (c.1.walk.unvoted i l).unvoted)

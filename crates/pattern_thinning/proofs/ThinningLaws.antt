@@ -6,7 +6,7 @@ use Rattle.rcp_model.specs.Walk.{Graph}
 use Rattle.rcp_model.specs.Thinning.{thinned}
 use Rattle.task_graph.specs.Rows.{Rows, AreFeedsOf}
 use Rattle.pattern_thinning.proofs.AfterLemmas.{thinned_alike}
-use Rattle.pattern_thinning.proofs.AlikeLemmas.{cycle_there}
+use Rattle.rcp_model.proofs.ShownLaws.{cycle_found}
 use Rattle.pattern_thinning.proofs.NeedLemmas.{thinned_is_lean}
 
 -- the same cells feed the same cells as before
@@ -23,4 +23,4 @@ thinned_feeds g rows are =
 
 -- where there is no unvoted cycle, thinning leaves none
 pub thinned_none : (g : Graph) → has_cycle g ≡ false → has_cycle (thinned g) ≡ false
-thinned_none g none = (thinned_is_lean g (λ nodes cycle. both_ways (has_cycle g) none (cycle_there g nodes cycle))).none_found
+thinned_none g none = (thinned_is_lean g (λ nodes cycle. both_ways (has_cycle g) none (cycle_found g nodes cycle))).none_found

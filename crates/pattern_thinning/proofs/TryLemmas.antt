@@ -9,12 +9,13 @@ use Rattle.rcp_model.specs.Thinning.{votes_without, without, thinned_at}
 use Rattle.task_graph.specs.Rows.{Rows}
 use Rattle.vote_pattern.specs.Votes.{Votes, Writes, AreVotesOf, is_in, vote_count}
 use Rattle.vote_pattern.specs.Laws.{one_if}
-use Rattle.vote_pattern.proofs.CountLemmas.{count_follows}
+use Rattle.vote_pattern.proofs.CountLaws.{count_follows}
 use Rattle.recovery_analysis.specs.Graphs.{graph_of, IsOneSize}
-use Rattle.recovery_analysis.specs.Levels.{make_node, IsNode}
-use Rattle.recovery_analysis.proofs.OrderLemmas.{same_node, other_node}
+use Rattle.rcp_model.specs.Node.{make_node}
+use Rattle.rcp_model.specs.Walk.{IsNode}
+use Rattle.rcp_model.proofs.OrderLaws.{same_node, other_node}
 use Rattle.pattern_thinning.specs.Reach.{comes_back}
-use Rattle.pattern_thinning.proofs.AlikeLemmas.{IsAlike, HasSameVotes, had_none, same_cycles}
+use Rattle.rcp_model.proofs.AlikeLaws.{IsAlike, HasSameVotes, had_none, same_cycles}
 use Rattle.pattern_thinning.proofs.ReachLemmas.{cycle_is_return}
 
 -- the vote that is taken away, and another

@@ -5,7 +5,7 @@ use Rattle.rcp_base.specs.Search.{any_below}
 use Rattle.rcp_model.specs.declared.node.Node.{Node}
 use Rattle.rcp_model.specs.Walk.{Graph, node_count}
 use Rattle.rcp_model.specs.Levels.{node_of, is_unvoted, steps_to}
-use Rattle.recovery_analysis.specs.Levels.{make_node}
+use Rattle.rcp_model.specs.Node.{make_node}
 
 -- so many steps, each to an unvoted node, lead from the first node to the other
 unfoldable pub reaches : Graph → Node → ℕ → Node → Bool

@@ -6,7 +6,7 @@ use Rattle.rcp_model.specs.Levels.{number, has_cycle}
 use Rattle.rcp_model.specs.Thinning.{thinned, IsRedundant}
 use Rattle.task_graph.specs.Rows.{Rows, AreFeedsOf}
 use Rattle.vote_pattern.specs.Votes.{Votes, AreVotesOf}
-use Rattle.recovery_analysis.specs.Levels.{make_node}
+use Rattle.rcp_model.specs.Node.{make_node}
 
 -- the new votes are the thinned ones of each graph that has these rows and the old votes
 abbrev pub IsThinnedFor : Rows → Votes → Votes → Type 0

@@ -8,7 +8,8 @@ ghost use Rattle.rcp_model.specs.Walk.{IsUnvotedCycle};
 ghost use Rattle.vote_pattern.specs.Laws.{one_if};
 ghost use Rattle.vote_pattern.specs.Votes.{AreVotesOf, vote_count};
 ghost use Rattle.recovery_analysis.specs.Graphs.{graph_of, IsOneSize};
-ghost use Rattle.recovery_analysis.specs.Levels.{IsNode, make_node};
+ghost use Rattle.rcp_model.specs.Walk.{IsNode};
+ghost use Rattle.rcp_model.specs.Node.{make_node};
 ghost use Rattle.pattern_thinning.specs.Thinned.{IsThinnedFor};
 
 use crate::reach::{comes_back, node_count};

@@ -4,6 +4,7 @@ pub mod AddingLaws
 pub mod StateLaws
 pub mod TableLaws
 pub mod SearchLaws
+pub mod PigeonholeLaws
 pub mod BitLaws
 pub mod FillLaws
 pub mod CountLaws

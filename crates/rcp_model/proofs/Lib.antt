@@ -2,6 +2,14 @@ pub mod TimingLaws
 pub mod RoundingLaws
 pub mod NameLaws
 pub mod ExprLaws
+pub mod OrderLaws
+pub mod LevelLaws
+pub mod CoreLaws
+pub mod CycleLaws
+pub mod WalkLaws
+pub mod UniqueLaws
+pub mod ShownLaws
+pub mod AlikeLaws
 mod ExamplePlans
 mod ComputedRuns
 mod ExampleEngines

@@ -30,6 +30,10 @@ level g (suc k) n =
 abbrev pub goes : Graph → ℕ → Node → ℕ → Bool
 goes g k n v = steps_to g (node_of g v) n && level g k (node_of g v)
 
+-- some node does
+abbrev pub has_node_before : Graph → ℕ → Node → Bool
+has_node_before g k n = any_below (node_count g) (goes g k n)
+
 -- the least node that does
 abbrev pub node_before : Graph → ℕ → Node → Node
 node_before g k n = node_of g (first_below (node_count g) (goes g k n))
@@ -41,6 +45,10 @@ has_level_node g k = any_below (node_count g) (λ v. level g k (node_of g v))
 -- the least node that does
 abbrev pub least_node : Graph → ℕ → Node
 least_node g k = node_of g (first_below (node_count g) (λ v. level g k (node_of g v)))
+
+-- the node ends an unvoted walk of more nodes than there are
+abbrev pub is_core : Graph → Node → Bool
+is_core g n = level g (node_count g) n
 
 -- there is an unvoted cycle: an unvoted walk of more nodes than there are
 abbrev pub has_cycle : Graph → Bool

@@ -13,10 +13,12 @@ pub mod System
 pub mod Dependence
 pub mod Node
 pub mod Walk
-pub mod Recovery
 pub mod Witness
+pub mod Recovery
 pub mod Levels
 pub mod Shown
 pub mod Thinning
 pub mod PlanGraph
+pub mod GraphLaws
 pub mod Laws
+pub mod inner

@@ -1,8 +1,12 @@
 -- The order of nodes. After NASA TM-102716; the words are this project's own.
-use Rattle.std.specs.Prelude.{IsTrue}
+use Rattle.std.specs.Prelude.{ℕ, IsTrue}
 use Rattle.std.specs.declared.cmp.Ordering.{Ordering}
 use Rattle.std.specs.Ordering.{nat_cmp, ordering_then, is_le}
 use Rattle.rcp_model.specs.declared.node.Node.{Node}
+
+-- the node of a slot and a cell
+abbrev pub make_node : ℕ → ℕ → Node
+make_node slot cell = record { slot = slot; cell = cell }
 
 -- by slot, then by cell
 abbrev pub node_cmp : Node → Node → Ordering

@@ -13,6 +13,11 @@ pub record Graph : Type 0 where
 abbrev pub node_count : Graph → ℕ
 node_count g = g.slots * g.cells
 
+-- the node is one of the graph
+pub record IsNode (g : Graph) (n : Node) : Type 0 where
+  pub slot_in : n.slot < g.slots
+  pub cell_in : n.cell < g.cells
+
 -- a node of the graph whose slot does not vote its cell
 pub record IsUnvoted (g : Graph) (n : Node) : Type 0 where
   pub slot_in : n.slot < g.slots

@@ -2,7 +2,7 @@
 use Rattle.std.specs.Prelude.{◌≡◌, ◌≢◌, ℕ, ◌+◌, ◌-◌, ◌<◌, zero, suc, List, length}
 use Rattle.rcp_model.specs.declared.node.Node.{Node}
 use Rattle.rcp_model.specs.Node.{IsUpTo, IsLeast}
-use Rattle.rcp_model.specs.Walk.{Graph, node_count, StepsTo, at, EndsWalk}
+use Rattle.rcp_model.specs.Walk.{Graph, node_count, StepsTo, at, EndsWalk, IsUnvotedCycle}
 
 -- a node that ends an unvoted walk of more nodes than there are
 abbrev pub IsCore : Graph → Node → Type 0
@@ -25,6 +25,11 @@ pub record IsWitnessCycle (g : Graph) (nodes : List Node) : Type 0 where
   pub closes : IsBack g (at nodes 0) (at nodes (length nodes - 1))
   pub distinct : (i j : ℕ) → i < j → j < length nodes → at nodes i ≢ at nodes j
   pub begins : (i : ℕ) → i < length nodes → IsUpTo (at nodes 0) (at nodes i)
+
+-- an unvoted cycle: the one that is shown
+pub record IsShownCycle (g : Graph) (nodes : List Node) : Type 0 where
+  pub cycle : IsUnvotedCycle g nodes
+  pub witness : IsWitnessCycle g nodes
 
 -- its last node is the least that ends an unvoted walk of as many nodes, and each before it is the least that
 -- steps to the one after it and ends an unvoted walk of as many nodes as are left

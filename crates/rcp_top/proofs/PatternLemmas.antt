@@ -9,7 +9,7 @@ use Rattle.rcp_model.specs.Shown.{recovery_length, witness_walk, witness_cycle}
 use Rattle.rcp_model.specs.declared.plan.PlanParts.{PlanParts}
 use Rattle.fault_journal.specs.History.{journal_verdict}
 use Rattle.fault_journal.specs.declared.fault.JournalFault.{JournalFault}
-use Rattle.recovery_analysis.proofs.VerdictLaws.{cycle_found, cycle_is_right, none_found, recovery_is_right}
+use Rattle.rcp_model.proofs.ShownLaws.{cycle_found, cycle_is_right, none_found, recovery_is_right}
 use Rattle.rcp_top.specs.declared.status.Status.TheVariants as status
 use Rattle.rcp_top.specs.Forms.{Form, Wanted}
 use Rattle.rcp_top.specs.Laws.{GivesPlan, IsRefusedAtCycles, PatternsAreRefusedAtCycles, AnalysesAreRight}

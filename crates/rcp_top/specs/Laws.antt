@@ -7,7 +7,7 @@ use Rattle.rcp_model.specs.Walk.{IsUnvotedCycle}
 use Rattle.rcp_model.specs.Witness.{IsWitnessCycle}
 use Rattle.rcp_model.specs.declared.node.Node.{Node}
 use Rattle.rcp_model.specs.declared.plan.PlanParts.{PlanParts}
-use Rattle.recovery_analysis.specs.Verdict.{IsRecovery}
+use Rattle.rcp_model.specs.Recovery.{IsRecovery}
 use Rattle.task_file.specs.TaskFile.{task_file_verdict}
 use Rattle.rcp_top.specs.declared.status.Status.{Status}
 use Rattle.rcp_top.specs.declared.status.Status.TheVariants as status

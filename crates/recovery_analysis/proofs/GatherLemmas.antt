@@ -7,15 +7,23 @@ use Rattle.std.specs.List.{range_with_len}
 use Rattle.rcp_model.specs.declared.node.Node.{Node}
 use Rattle.rcp_model.specs.Walk.{Graph, node_count, no_node}
 use Rattle.rcp_model.specs.Levels.{number, has_cycle}
-use Rattle.recovery_analysis.specs.Levels.{is_core, back_times}
+use Rattle.recovery_analysis.specs.Levels.{back_times}
+use Rattle.rcp_model.specs.Levels.{is_core}
 use Rattle.rcp_model.specs.Shown.{path, back_node}
 use Rattle.rcp_model.specs.Witness.{IsWitnessCycle}
-use Rattle.recovery_analysis.specs.Around.{Period, TurnSoFar, IsTurn}
+use Rattle.rcp_model.specs.inner.Around.{IsPeriod, IsLeastPlace, IsLeastAround}
 use Rattle.rcp_model.specs.Shown.{period_of, around, cycle_nodes}
-use Rattle.recovery_analysis.proofs.CoreLemmas.{path_at, path_same, path_core}
-use Rattle.recovery_analysis.proofs.CycleLemmas.{is_period, around_returns, around_distinct, cycle_is_witness}
+use Rattle.rcp_model.proofs.CoreLaws.{path_at, path_same, path_core}
+use Rattle.rcp_model.proofs.CycleLaws.{is_period, around_returns, around_distinct, cycle_is_witness}
 
-pub turn_begin : (g : Graph) (least : Node) → has_cycle g ≡ true → least ≡ path g (node_count g) → TurnSoFar g (period_of g) 0 least
+-- the least node seen so far, after t more steps back
+pub record LeastSoFar (g : Graph) (p t : ℕ) (least : Node) : Type 0 where
+  pub s : ℕ
+  pub below : s < p
+  pub is : least ≡ path g (s + node_count g)
+  pub lowest : (u : ℕ) → u < t + 1 → number g least ≤ number g (path g (u + node_count g))
+
+pub turn_begin : (g : Graph) (least : Node) → has_cycle g ≡ true → least ≡ path g (node_count g) → LeastSoFar g (period_of g) 0 least
 turn_begin g least h e = record {
   s = 0;
   below = omega arith;
@@ -23,7 +31,7 @@ turn_begin g least h e = record {
   lowest = λ u l. let a : number g least ≡ number g (path g (u + node_count g)) = ap (number g) (e ∙ path_at g (node_count g) (u + node_count g) (omega arith)) in omega arith;
 }
 
-turn_kept : (g : Graph) (p t : ℕ) (least node : Node) → TurnSoFar g p t least → node ≡ path g (t + 1 + node_count g) → number g least ≤ number g node → TurnSoFar g p (t + 1) least
+turn_kept : (g : Graph) (p t : ℕ) (least node : Node) → LeastSoFar g p t least → node ≡ path g (t + 1 + node_count g) → number g least ≤ number g node → LeastSoFar g p (t + 1) least
 turn_kept g p t least node r e le = record {
   s = r.s;
   below = r.below;
@@ -34,7 +42,7 @@ turn_kept g p t least node r e le = record {
   ];
 }
 
-turn_taken : (g : Graph) (p t : ℕ) (least node : Node) → Period g p → TurnSoFar g p t least → node ≡ path g (t + 1 + node_count g) → number g node < number g least → TurnSoFar g p (t + 1) node
+turn_taken : (g : Graph) (p t : ℕ) (least node : Node) → IsPeriod g p → LeastSoFar g p t least → node ≡ path g (t + 1 + node_count g) → number g node < number g least → LeastSoFar g p (t + 1) node
 turn_taken g p t least node d r e lt = record {
   s = t + 1;
   below = elim (cases_lt (t + 1) p) [
@@ -54,16 +62,16 @@ turn_taken g p t least node d r e lt = record {
   ];
 }
 
-pub turn_more : (g : Graph) (t : ℕ) (least node next : Node) → has_cycle g ≡ true → TurnSoFar g (period_of g) t least → node ≡ path g (t + 1 + node_count g) → ((number g node < number g least) × (next ≡ node)) ⊎ ((number g least ≤ number g node) × (next ≡ least)) → TurnSoFar g (period_of g) (t + 1) next
-turn_more g t least node next h r e (inl a) = subst (TurnSoFar g (period_of g) (t + 1)) (sym a.1) (turn_taken g (period_of g) t least node (is_period g h) r e a.0)
-turn_more g t least node next h r e (inr a) = subst (TurnSoFar g (period_of g) (t + 1)) (sym a.1) (turn_kept g (period_of g) t least node r e a.0)
+pub turn_more : (g : Graph) (t : ℕ) (least node next : Node) → has_cycle g ≡ true → LeastSoFar g (period_of g) t least → node ≡ path g (t + 1 + node_count g) → ((number g node < number g least) × (next ≡ node)) ⊎ ((number g least ≤ number g node) × (next ≡ least)) → LeastSoFar g (period_of g) (t + 1) next
+turn_more g t least node next h r e (inl a) = subst (LeastSoFar g (period_of g) (t + 1)) (sym a.1) (turn_taken g (period_of g) t least node (is_period g h) r e a.0)
+turn_more g t least node next h r e (inr a) = subst (LeastSoFar g (period_of g) (t + 1)) (sym a.1) (turn_kept g (period_of g) t least node r e a.0)
 
-pub turn_end : (g : Graph) (least : Node) → has_cycle g ≡ true → TurnSoFar g (period_of g) (node_count g) least → IsTurn g least
+pub turn_end : (g : Graph) (least : Node) → has_cycle g ≡ true → LeastSoFar g (period_of g) (node_count g) least → IsLeastAround g least
 turn_end g least h r =
     let within : period_of g ≤ node_count g = (is_period g h).within in
     record {
       s = r.s;
-      turn = record {
+      place = record {
         below = r.below;
         least = λ t l.
             let e : number g least ≡ number g (path g (r.s + node_count g)) = ap (number g) r.is in
@@ -81,7 +89,7 @@ abbrev pub NotAgain : Graph → Node → ℕ → Type 0
 NotAgain g least t = (q : ℕ) → 0 < q → q < t + 1 → back_times g least q ≢ least
 
 -- it comes again in as many steps as there are nodes
-pub comes : (g : Graph) (least : Node) → has_cycle g ≡ true → IsTurn g least → NotAgain g least (node_count g) → ⊥
+pub comes : (g : Graph) (least : Node) → has_cycle g ≡ true → IsLeastAround g least → NotAgain g least (node_count g) → ⊥
 comes g least h turn fresh =
     let r = is_period g h in
     let some : 0 < period_of g = r.some in
@@ -92,7 +100,7 @@ comes g least h turn fresh =
 abbrev pub gathered_nodes : Graph → Node → ℕ → List Node
 gathered_nodes g least t = map (λ i. back_times g least (suc i)) (range_with_len 0 t)
 
-pub gathered : (g : Graph) (least : Node) (t : ℕ) → has_cycle g ≡ true → IsTurn g least → NotAgain g least t → back_times g least (suc t) ≡ least → IsWitnessCycle g (reverse (gathered_nodes g least (suc t)))
+pub gathered : (g : Graph) (least : Node) (t : ℕ) → has_cycle g ≡ true → IsLeastAround g least → NotAgain g least t → back_times g least (suc t) ≡ least → IsWitnessCycle g (reverse (gathered_nodes g least (suc t)))
 gathered g least t h turn fresh again =
     let r = is_period g h in
     let p : ℕ = period_of g in
@@ -103,7 +111,7 @@ gathered g least t h turn fresh again =
     let round : period_of g ≡ suc t = elim (cases_lt (period_of g) (suc t)) [
       | inl a ↦ absurd (fresh (period_of g) some (omega arith) (around_is (period_of g) ∙ around_returns g (period_of g) s r ∙ sym (around_is 0)))
       | inr a ↦ elim (cases_lt (suc t) (period_of g)) [
-        | inl b ↦ absurd (around_distinct g (period_of g) s r turn.turn.below 0 (suc t) (omega arith) b (sym back))
+        | inl b ↦ absurd (around_distinct g (period_of g) s r turn.place.below 0 (suc t) (omega arith) b (sym back))
         | inr b ↦ omega arith
       ]
     ] in
@@ -119,7 +127,7 @@ gathered g least t h turn fresh again =
     ∙ sym (around_is (suc j))
     ∙ sym (get_or-map-range_with_len (λ i. back_times g least (suc i)) 0 (suc t) j j no_node (omega arith) (omega arith))
     ∙ sym (get_or-reverse xs i no_node (omega arith))) in
-    subst (IsWitnessCycle g) same (cycle_is_witness g (period_of g) s h r turn.turn)
+    subst (IsWitnessCycle g) same (cycle_is_witness g (period_of g) s h r turn.place)
 
 pub gathered_more : (g : Graph) (least : Node) (t : ℕ) (old new : List Node) (node : Node) → old ≡ gathered_nodes g least t → node ≡ back_times g least (suc t) → new ≡ old ++ node ∷ [] → new ≡ gathered_nodes g least (suc t)
 gathered_more g least t old new node e n p =
@@ -134,5 +142,5 @@ not_again_more g least t fresh ne q pos l e = elim (cases_eq q (suc t)) [
   | inr a ↦ fresh q pos (omega arith) e
 ]
 
-pub around_core : (g : Graph) (least : Node) → has_cycle g ≡ true → IsTurn g least → (t : ℕ) → is_core g (back_times g least t) ≡ true
+pub around_core : (g : Graph) (least : Node) → has_cycle g ≡ true → IsLeastAround g least → (t : ℕ) → is_core g (back_times g least t) ≡ true
 around_core g least h turn t = ap (is_core g) (back_around g turn.s least turn.is t) ∙ path_core g h (t + (turn.s + node_count g))

@@ -1,12 +1,4 @@
-pub mod SearchLemmas
-pub mod OrderLemmas
-pub mod UniqueLemmas
-pub mod LevelLemmas
-pub mod CoreLemmas
-pub mod CycleLemmas
-pub mod GatherLemmas
-pub mod WalkLemmas
-pub mod MarkLemmas
-pub mod TransferLemmas
-pub mod ShownLemmas
+mod GatherLemmas
+mod MarkLemmas
+mod VerdictLemmas
 pub mod VerdictLaws

@@ -9,12 +9,14 @@ use Rattle.rcp_base.specs.Bits.{has_bit}
 use Rattle.rcp_base.specs.Bits.{WritesBit}
 use Rattle.rcp_model.specs.declared.node.Node.{Node}
 use Rattle.rcp_model.specs.Walk.{Graph, node_count, IsUnvoted}
-use Rattle.recovery_analysis.specs.Levels.{AnswersBefore, make_node, AreWords, IsWordOf, slot_before, enters, IsNode}
+use Rattle.recovery_analysis.specs.Levels.{AnswersBefore, AreWords, IsWordOf, slot_before, enters}
+use Rattle.rcp_model.specs.Node.{make_node}
+use Rattle.rcp_model.specs.Walk.{IsNode}
 use Rattle.rcp_model.specs.Levels.{node_of, is_unvoted, steps_to, level, goes}
 use Rattle.rcp_base.specs.Search.{any_below, first_below, IsFirst}
 use Rattle.rcp_base.proofs.SearchLaws.{any_of, none_any, first_is}
-use Rattle.recovery_analysis.proofs.LevelLemmas.{node_of-number, level_unvoted, level_zero, is_unvoted_from, steps_to_parts}
-use Rattle.recovery_analysis.proofs.CoreLemmas.{number-node_of}
+use Rattle.rcp_model.proofs.LevelLaws.{node_of-number, level_unvoted, level_zero, is_unvoted_from, steps_to_parts}
+use Rattle.rcp_model.proofs.CoreLaws.{number-node_of}
 use Rattle.rcp_base.proofs.BitLaws.{has_bit_and, has_bit_zero}
 use Rattle.std.specs.Option.{is_some, MatchOption}
 

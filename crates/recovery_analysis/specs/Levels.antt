@@ -3,24 +3,10 @@ use Rattle.std.specs.Prelude.{IsTrue, false, Option, MatchOption, ◌≤◌, ◌
 use Rattle.rcp_base.specs.Bits.{has_bit}
 use Rattle.rcp_base.specs.Search.{any_below, IsFirst}
 use Rattle.rcp_model.specs.declared.node.Node.{Node}
+use Rattle.rcp_model.specs.Node.{make_node}
 use Rattle.rcp_model.specs.Walk.{Graph, node_count}
 use Rattle.rcp_model.specs.Levels.{node_of, level, goes, has_level_node}
 use Rattle.rcp_model.specs.Shown.{back_node, walk_node}
-
-abbrev pub make_node : ℕ → ℕ → Node
-make_node s c = record { slot = s; cell = c }
-
--- some node steps to the node and ends an unvoted walk of k + 1 nodes
-abbrev pub has_node_before : Graph → ℕ → Node → Bool
-has_node_before g k n = any_below (node_count g) (goes g k n)
-
--- the core as a test
-abbrev pub is_core : Graph → Node → Bool
-is_core g n = level g (node_count g) n
-
--- the node of this number is in the core
-abbrev pub starts : Graph → ℕ → Bool
-starts g v = is_core g (node_of g v)
 
 -- the slot before, in turn
 abbrev pub slot_before : Graph → ℕ → ℕ
@@ -34,11 +20,6 @@ enters g k n d = g.feeds n.slot d n.cell && level g k (make_node (slot_before g 
 abbrev pub AnswersBefore : Graph → ℕ → Node → Option ℕ → Type 0
 AnswersBefore g k n answer =
     MatchOption answer ((d : ℕ) → d < g.cells → enters g k n d ≡ false) (IsFirst g.cells (enters g k n))
-
--- the node is one of the graph
-pub record IsNode (g : Graph) (n : Node) : Type 0 where
-  pub slot_in : n.slot < g.slots
-  pub cell_in : n.cell < g.cells
 
 -- the node to which so many steps back from a node lead
 abbrev pub back_times : Graph → Node → ℕ → Node

@@ -4,11 +4,12 @@
 ghost use Rattle.std.specs.Prelude.{IsTrue, ◌≡◌, IfOk};
 ghost use Rattle.rcp_model.specs.Walk.{node_count};
 ghost use Rattle.recovery_analysis.specs.Graphs.{graph_of, IsOneSize};
-ghost use Rattle.recovery_analysis.specs.Levels.{IsFull, is_core};
+ghost use Rattle.recovery_analysis.specs.Levels.{IsFull};
+ghost use Rattle.rcp_model.specs.Levels.{is_core};
 ghost use Rattle.rcp_model.specs.Shown.{start_node, back_node, path};
 ghost use Rattle.rcp_model.specs.Levels.{has_cycle};
 ghost use Rattle.rcp_model.specs.Witness.{IsWitnessCycle};
-ghost use Rattle.recovery_analysis.specs.Around.{IsTurn};
+ghost use Rattle.rcp_model.specs.inner.Around.{IsLeastAround};
 
 use crate::levels;
 use crate::walks::{back, list_of};
@@ -50,7 +51,7 @@ fn turn(rows: &DepRows, pattern: &Pattern, words: &[u64], reached: Node) -> Node
     requires words { IsFull (graph_of rows.now pattern.now) words.now }
     requires core { IsTrue (has_cycle (graph_of rows.now pattern.now)) }
     requires reached { let g = graph_of rows.now pattern.now in reached ≡ path g (node_count g) }
-    ensures { IsTurn (graph_of rows.now pattern.now) result }
+    ensures { IsLeastAround (graph_of rows.now pattern.now) result }
 {
     let mut node = reached;
     let mut least = reached;
@@ -74,7 +75,7 @@ fn gather(
     requires size { IsOneSize rows.now pattern.now }
     requires words { IsFull (graph_of rows.now pattern.now) words.now }
     requires core { IsTrue (has_cycle (graph_of rows.now pattern.now)) }
-    requires least { IsTurn (graph_of rows.now pattern.now) least }
+    requires least { IsLeastAround (graph_of rows.now pattern.now) least }
     ensures { IfOk result (IsWitnessCycle (graph_of rows.now pattern.now)) }
 {
     let mut nodes = Vec::new(alloc);

@@ -4,7 +4,8 @@
 ghost use Rattle.std.specs.Prelude.{vec_len, if◌then◌else◌, ◌==◌, ◌≡◌, ◌<◌, ◌≤◌, ◌*◌, ◌+◌, ◌-◌, length, OnOk};
 ghost use Rattle.recovery_analysis.specs.Graphs.{graph_of, IsOneSize};
 ghost use Rattle.rcp_model.specs.Levels.{level};
-ghost use Rattle.recovery_analysis.specs.Levels.{AnswersBefore, AreWords, IsWordOf, IsNode};
+ghost use Rattle.recovery_analysis.specs.Levels.{AnswersBefore, AreWords, IsWordOf};
+ghost use Rattle.rcp_model.specs.Walk.{IsNode};
 
 use rcp_base::{Memory, bits};
 use rcp_model::Node;

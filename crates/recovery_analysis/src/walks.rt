@@ -2,7 +2,9 @@
 //! This project's own.
 ghost use Rattle.std.specs.Prelude.{IsTrue, ◌≡◌, ◌<◌, ◌≤◌, ◌*◌, ◌+◌, ◌-◌, length, IfOk};
 ghost use Rattle.recovery_analysis.specs.Graphs.{graph_of, IsOneSize};
-ghost use Rattle.recovery_analysis.specs.Levels.{AnswersLeast, AreWords, has_node_before, IsNode};
+ghost use Rattle.recovery_analysis.specs.Levels.{AnswersLeast, AreWords};
+ghost use Rattle.rcp_model.specs.Levels.{has_node_before};
+ghost use Rattle.rcp_model.specs.Walk.{IsNode};
 ghost use Rattle.rcp_model.specs.Levels.{has_level_node, node_before};
 ghost use Rattle.rcp_model.specs.Shown.{walk_node};
 ghost use Rattle.rcp_model.specs.Witness.{IsWitnessWalkOf};

@@ -1,4 +1,4 @@
 pub mod BitLemmas
 pub mod VoteLemmas
-pub mod CountLemmas
+pub mod CountLaws
 pub mod GraphLaws

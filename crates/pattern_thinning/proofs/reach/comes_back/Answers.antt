@@ -3,7 +3,7 @@ use Rattle.std.proofs.lemmas.Bool.{cases_eq, cases_lt, false_from_ne_true}
 use Rattle.rcp_base.proofs.SearchLaws.{any_of, none_any}
 use Rattle.rcp_model.specs.Walk.{node_count}
 use Rattle.recovery_analysis.specs.Graphs.{graph_of}
-use Rattle.recovery_analysis.specs.Levels.{make_node}
+use Rattle.rcp_model.specs.Node.{make_node}
 use Rattle.pattern_thinning.specs.Reach.{reaches}
 use Rattle.pattern_thinning.proofs.FrontierLemmas.{IsFrontier, frontier_begin, frontier_more, frontier_cells, dead_end}
 use Rattle.pattern_thinning.proofs.reach.comes_back.Goals as goal

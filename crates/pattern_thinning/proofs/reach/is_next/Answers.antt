@@ -1,6 +1,6 @@
 use Rattle.std.proofs.Common.{sym, ◌∙◌}
 use Rattle.recovery_analysis.specs.Graphs.{graph_of}
-use Rattle.recovery_analysis.specs.Levels.{make_node}
+use Rattle.rcp_model.specs.Node.{make_node}
 use Rattle.rcp_model.specs.Walk.{IsUnvoted}
 use Rattle.pattern_thinning.proofs.FrontierLemmas.{fed_if_common, next_if_fed, voted_is_not_next}
 use Rattle.pattern_thinning.proofs.reach.is_next.Goals as goal

@@ -4,7 +4,7 @@ use Rattle.rcp_model.specs.Thinning.{thinned_at}
 use Rattle.vote_pattern.specs.Laws.{one_if}
 use Rattle.vote_pattern.specs.Votes.{AreVotesOf}
 use Rattle.recovery_analysis.specs.Graphs.{graph_of}
-use Rattle.pattern_thinning.proofs.AlikeLemmas.{none_there}
+use Rattle.rcp_model.proofs.ShownLaws.{none_found}
 use Rattle.pattern_thinning.proofs.AfterLemmas.{AreVotesAfter, after_none, after_more, after_all}
 use Rattle.pattern_thinning.proofs.thinning.thin.Goals.{then-try_vote, else-try_vote}
 use Rattle.pattern_thinning.proofs.thinning.thin.Goals as goal
@@ -12,7 +12,7 @@ use Rattle.pattern_thinning.proofs.thinning.thin.Goals as goal
 pub loop-number-init : goal.loop-number-init
 loop-number-init c = record {
   size = record { slots = c.requires.slots; cells = c.requires.cells };
-  no_cycle = none_there (graph_of c.args.rows.now c.args.pattern.now) c.requires.no_cycle;
+  no_cycle = none_found (graph_of c.args.rows.now c.args.pattern.now) c.requires.no_cycle;
   so_far = after_none c.args.rows.now c.args.pattern.now;
   count = omega arith;
   small = omega arith;

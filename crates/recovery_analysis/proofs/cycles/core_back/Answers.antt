@@ -2,10 +2,10 @@ use Rattle.std.proofs.Common.{◌≡◌, ℕ, true, ap, sym, ◌∙◌, subst}
 use Rattle.recovery_analysis.specs.Graphs.{graph_of}
 use Rattle.rcp_model.specs.Walk.{node_count}
 use Rattle.rcp_model.specs.Levels.{node_of, goes}
-use Rattle.recovery_analysis.specs.Levels.{is_core}
+use Rattle.rcp_model.specs.Levels.{is_core}
 use Rattle.rcp_base.specs.Search.{any_below, first_below}
-use Rattle.recovery_analysis.proofs.LevelLemmas.{level_unvoted}
-use Rattle.recovery_analysis.proofs.CoreLemmas.{core_some, back_node-is, back_core}
+use Rattle.rcp_model.proofs.LevelLaws.{level_unvoted}
+use Rattle.rcp_model.proofs.CoreLaws.{core_some, back_node-is, back_core}
 use Rattle.recovery_analysis.proofs.cycles.core_back.Goals as goal
 
 pub back-requires-clause-node : goal.back-requires-clause-node

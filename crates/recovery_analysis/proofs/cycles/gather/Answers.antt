@@ -1,9 +1,10 @@
 use Rattle.std.proofs.Common.{◌≡◌, ◌+◌, ℕ, suc, reverse, ap, sym, ◌∙◌, subst, arith, refl}
 use Rattle.recovery_analysis.specs.Graphs.{graph_of}
 use Rattle.rcp_model.specs.Shown.{back_node}
-use Rattle.recovery_analysis.specs.Levels.{is_core, back_times}
+use Rattle.recovery_analysis.specs.Levels.{back_times}
+use Rattle.rcp_model.specs.Levels.{is_core}
 use Rattle.rcp_model.specs.Witness.{IsWitnessCycle}
-use Rattle.recovery_analysis.proofs.OrderLemmas.{same_node, other_node}
+use Rattle.rcp_model.proofs.OrderLaws.{same_node, other_node}
 use Rattle.recovery_analysis.proofs.GatherLemmas.{NotAgain, comes, gathered_nodes, gathered_more, not_again_more, gathered, around_core}
 use Rattle.recovery_analysis.proofs.cycles.gather.Goals as goal
 

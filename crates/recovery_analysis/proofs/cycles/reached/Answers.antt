@@ -2,8 +2,8 @@ use Rattle.std.proofs.Common.{◌+◌, suc, ap, ◌∙◌, arith}
 use Rattle.recovery_analysis.specs.Graphs.{graph_of}
 use Rattle.rcp_model.specs.Walk.{node_count}
 use Rattle.rcp_model.specs.Shown.{back_node}
-use Rattle.recovery_analysis.specs.Levels.{is_core}
-use Rattle.recovery_analysis.proofs.CoreLemmas.{path_at, path_core}
+use Rattle.rcp_model.specs.Levels.{is_core}
+use Rattle.rcp_model.proofs.CoreLaws.{path_at, path_core}
 use Rattle.recovery_analysis.proofs.cycles.reached.Goals as goal
 
 pub core_back-node-requires-clause-node : goal.core_back-node-requires-clause-node

@@ -2,12 +2,12 @@ use Rattle.std.proofs.Common.{sym, ◌≡◌, ◌+◌, ℕ, suc, inl, inr, ap, �
 use Rattle.recovery_analysis.specs.Graphs.{graph_of}
 use Rattle.rcp_model.specs.Walk.{node_count}
 use Rattle.rcp_model.specs.Shown.{path, back_node}
-use Rattle.recovery_analysis.specs.Levels.{is_core}
+use Rattle.rcp_model.specs.Levels.{is_core}
 use Rattle.rcp_model.specs.Shown.{period_of}
-use Rattle.recovery_analysis.specs.Around.{TurnSoFar}
-use Rattle.recovery_analysis.proofs.OrderLemmas.{before, not_before}
-use Rattle.recovery_analysis.proofs.LevelLemmas.{level_unvoted}
-use Rattle.recovery_analysis.proofs.CoreLemmas.{path_at, path_core}
+use Rattle.recovery_analysis.proofs.GatherLemmas.{LeastSoFar}
+use Rattle.rcp_model.proofs.OrderLaws.{before, not_before}
+use Rattle.rcp_model.proofs.LevelLaws.{level_unvoted}
+use Rattle.rcp_model.proofs.CoreLaws.{path_at, path_core}
 use Rattle.recovery_analysis.proofs.GatherLemmas.{turn_begin, turn_more, turn_end}
 use Rattle.recovery_analysis.proofs.cycles.turn.Goals.{then-lt, else-lt}
 use Rattle.recovery_analysis.proofs.cycles.turn.Goals as goal
@@ -37,7 +37,7 @@ loop-i-preserved c =
 pub returns : goal.returns
 returns c =
     let g = graph_of c.args.rows.now c.args.pattern.now in
-    turn_end g c.loop-i.least c.requires.core (subst (λ (x : ℕ). TurnSoFar g (period_of g) x c.loop-i.least) (omega arith) c.loop-i.invariant.turn)
+    turn_end g c.loop-i.least c.requires.core (subst (λ (x : ℕ). LeastSoFar g (period_of g) x c.loop-i.least) (omega arith) c.loop-i.invariant.turn)
 
 pub loop-i-init : goal.loop-i-init
 loop-i-init c =

@@ -2,9 +2,9 @@ use Rattle.std.proofs.Common.{◌+◌, arith}
 use Rattle.recovery_analysis.specs.declared.verdict.Verdict.TheVariants.{Recovers, Cycle}
 use Rattle.recovery_analysis.specs.Graphs.{graph_of}
 use Rattle.rcp_model.specs.Walk.{node_count}
-use Rattle.recovery_analysis.proofs.CycleLemmas.{witness_is_cycle}
-use Rattle.recovery_analysis.proofs.WalkLemmas.{recovery_of}
-use Rattle.recovery_analysis.proofs.ShownLemmas.{verdict_of_graphs}
+use Rattle.rcp_model.proofs.CycleLaws.{witness_is_cycle}
+use Rattle.rcp_model.proofs.WalkLaws.{recovery_of}
+use Rattle.recovery_analysis.proofs.VerdictLemmas.{verdict_of_graphs}
 use Rattle.recovery_analysis.proofs.verdict.analyse.Goals as goal
 
 pub cycle_of-requires-clause-core : goal.cycle_of-requires-clause-core

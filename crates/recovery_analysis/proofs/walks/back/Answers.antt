@@ -2,7 +2,7 @@ use Rattle.std.proofs.Common.{ℕ, ap, ◌∙◌}
 use Rattle.std.proofs.lemmas.Bool.{both_ways}
 use Rattle.recovery_analysis.specs.Graphs.{graph_of}
 use Rattle.rcp_model.specs.Walk.{node_count}
-use Rattle.recovery_analysis.specs.Levels.{make_node}
+use Rattle.rcp_model.specs.Node.{make_node}
 use Rattle.rcp_model.specs.Levels.{goes}
 use Rattle.rcp_base.specs.Search.{any_below}
 use Rattle.recovery_analysis.proofs.MarkLemmas.{back_found, none_before}

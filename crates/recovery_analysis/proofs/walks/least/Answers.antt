@@ -1,10 +1,11 @@
 use Rattle.std.proofs.Common.{◌≡◌, ◌+◌, ◌*◌, ◌<◌, ℕ, true, get_or, ap, sym, ◌∙◌, subst, arith}
 use Rattle.recovery_analysis.specs.Graphs.{graph_of}
 use Rattle.rcp_model.specs.Walk.{node_count}
-use Rattle.recovery_analysis.specs.Levels.{IsWordOf, make_node}
+use Rattle.recovery_analysis.specs.Levels.{IsWordOf}
+use Rattle.rcp_model.specs.Node.{make_node}
 use Rattle.rcp_model.specs.Levels.{level, node_of}
 use Rattle.rcp_base.proofs.SearchLaws.{any_of}
-use Rattle.recovery_analysis.proofs.LevelLemmas.{level_unvoted, node_of-number}
+use Rattle.rcp_model.proofs.LevelLaws.{level_unvoted, node_of-number}
 use Rattle.recovery_analysis.proofs.MarkLemmas.{first_node, first_unique, no_node_marked}
 use Rattle.recovery_analysis.proofs.walks.least.Goals as goal
 

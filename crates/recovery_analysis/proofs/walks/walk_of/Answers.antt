@@ -1,6 +1,6 @@
 use Rattle.std.proofs.Common.{◌∙◌, ◌+◌, ◌-◌, length, arith}
 use Rattle.recovery_analysis.specs.Graphs.{graph_of}
-use Rattle.recovery_analysis.proofs.WalkLemmas.{walk_back, walk_nodes_more, walk_some_at, walk_unvoted, walk_answer, rows_fit}
+use Rattle.rcp_model.proofs.WalkLaws.{walk_back, walk_nodes_more, walk_some_at, walk_unvoted, walk_answer, rows_fit}
 use Rattle.recovery_analysis.proofs.walks.walk_of.Goals as goal
 
 pub back-node-requires-clause-node : goal.back-node-requires-clause-node

@@ -5,15 +5,19 @@ use Rattle.std.proofs.lemmas.Nat.{div-add-mod'}
 use Rattle.rcp_model.specs.declared.node.Node.{Node}
 use Rattle.rcp_model.specs.Walk.{Graph, node_count, IsUnvoted, StepsTo, at, EndsWalk, IsUnvotedCycle}
 use Rattle.rcp_model.specs.Levels.{number, node_of, steps_to, level, goes, has_cycle}
-use Rattle.recovery_analysis.specs.Levels.{is_core, starts}
+use Rattle.rcp_model.specs.Levels.{is_core}
 use Rattle.rcp_model.specs.Shown.{start_node, back_node, path}
 use Rattle.rcp_model.specs.Node.{IsLeast}
 use Rattle.rcp_model.specs.Witness.{IsCore, IsBack, IsReached}
 use Rattle.rcp_base.proofs.SearchLaws.{any_of, first_is}
-use Rattle.recovery_analysis.proofs.SearchLemmas.{pigeonhole}
+use Rattle.rcp_base.proofs.PigeonholeLaws.{pigeonhole}
 use Rattle.rcp_base.specs.Search.{any_below, first_below, IsFirst}
-use Rattle.recovery_analysis.proofs.OrderLemmas.{up_to_from}
-use Rattle.recovery_analysis.proofs.LevelLemmas.{node_of-number, number-lt, number-injective, steps_to_parts, steps_to_from, level_zero, level_unvoted, level_step, level_down, level_along, level_of_ends, ends_of_level, LevelBack}
+use Rattle.rcp_model.proofs.OrderLaws.{up_to_from}
+use Rattle.rcp_model.proofs.LevelLaws.{node_of-number, number-lt, number-injective, steps_to_parts, steps_to_from, level_zero, level_unvoted, level_step, level_down, level_along, level_of_ends, ends_of_level, LevelBack}
+
+-- the node of this number is in the core
+abbrev starts : Graph → ℕ → Bool
+starts g v = is_core g (node_of g v)
 
 -- a cycle has a step into each of its nodes, so its nodes are at each level
 pub cycle_level : (g : Graph) (nodes : List Node) → IsUnvotedCycle g nodes → (k i : ℕ) → i < length nodes → level g k (at nodes i) ≡ true

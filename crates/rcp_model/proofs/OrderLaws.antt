@@ -9,7 +9,7 @@ use Rattle.rcp_model.specs.declared.node.Node.{Node}
 use Rattle.rcp_model.specs.Walk.{Graph}
 use Rattle.rcp_model.specs.Node.{IsUpTo, node_cmp}
 use Rattle.rcp_model.specs.Levels.{number}
-use Rattle.recovery_analysis.specs.Levels.{make_node}
+use Rattle.rcp_model.specs.Node.{make_node}
 
 less : (a b : ℕ) → a < b → nat_cmp a b ≡ Less
 less a b h = cond-true (ltb a b) _ _ (lt-ltb a b h)

@@ -6,7 +6,7 @@ use Rattle.std.proofs.lemmas.Nat.{div-mul-add, mod-mul-add, mul-add-lt}
 use Rattle.rcp_model.specs.declared.node.Node.{Node}
 use Rattle.rcp_model.specs.Walk.{Graph, node_count, IsUnvoted, StepsTo, no_node, at, IsUnvotedWalk, EndsWalk}
 use Rattle.rcp_model.specs.Levels.{number, node_of, is_unvoted, steps_to, level}
-use Rattle.recovery_analysis.specs.Levels.{make_node}
+use Rattle.rcp_model.specs.Node.{make_node}
 use Rattle.rcp_base.proofs.SearchLaws.{any_found, any_of}
 
 pub node_of-number : (g : Graph) (n : Node) → n.cell < g.cells → node_of g (number g n) ≡ n

@@ -5,23 +5,21 @@ use Rattle.std.proofs.lemmas.List.FromFn.{length-map-range_with_len, get_or-map-
 use Rattle.rcp_model.specs.declared.node.Node.{Node}
 use Rattle.rcp_model.specs.Walk.{Graph, node_count, IsUnvoted, no_node, at, EndsWalk, IsUnvotedCycle}
 use Rattle.rcp_model.specs.Levels.{number, has_cycle}
-use Rattle.rcp_model.specs.Shown.{path, turn_of, witness_cycle, period_of, cycle_nodes}
+use Rattle.rcp_model.specs.inner.Around.{IsPeriod, IsLeastPlace}
 use Rattle.rcp_model.specs.Node.{IsUpTo}
 use Rattle.rcp_model.specs.Witness.{IsCore, IsBack, IsReached, IsWitnessCycle}
 use Rattle.rcp_base.specs.Search.{first_below}
-use Rattle.recovery_analysis.specs.Around.{Period, Turn}
-use Rattle.rcp_model.specs.Shown.{comes_again, period_of, around, cycle_nodes}
-use Rattle.rcp_base.proofs.SearchLaws.{any_of, first_is}
-use Rattle.rcp_base.proofs.SearchLaws.{lowest_is}
-use Rattle.recovery_analysis.proofs.SearchLemmas.{pigeonhole}
-use Rattle.recovery_analysis.proofs.OrderLemmas.{up_to_from, up_to_same}
-use Rattle.recovery_analysis.proofs.LevelLemmas.{number-lt, number-injective, level_unvoted}
-use Rattle.recovery_analysis.proofs.CoreLemmas.{level_of_core, core_of_cycle, has_cycle_from, path_at, path_same, path_unvoted, path_back, path_reached}
+use Rattle.rcp_model.specs.Shown.{comes_again, period_of, path, turn_of, around, cycle_nodes, witness_cycle}
+use Rattle.rcp_base.proofs.SearchLaws.{any_of, first_is, lowest_is}
+use Rattle.rcp_base.proofs.PigeonholeLaws.{pigeonhole}
+use Rattle.rcp_model.proofs.OrderLaws.{up_to_from, up_to_same}
+use Rattle.rcp_model.proofs.LevelLaws.{number-lt, number-injective, level_unvoted}
+use Rattle.rcp_model.proofs.CoreLaws.{level_of_core, core_of_cycle, has_cycle_from, path_at, path_same, path_unvoted, path_back, path_reached}
 
 pub same_of_number : (g : Graph) → has_cycle g ≡ true → (i j : ℕ) → number g (path g i) ≡ number g (path g j) → path g i ≡ path g j
 same_of_number g h i j e = number-injective g (path g i) (path g j) (path_unvoted g h i).cell_in (path_unvoted g h j).cell_in e
 
-pub is_period : (g : Graph) → has_cycle g ≡ true → Period g (period_of g)
+pub is_period : (g : Graph) → has_cycle g ≡ true → IsPeriod g (period_of g)
 is_period g h =
     let c = pigeonhole (node_count g) (λ i. number g (path g i)) (λ i l. number-lt g (path g i) (path_unvoted g h i)) in
     let lo : c.i < c.j = c.apart in
@@ -40,13 +38,13 @@ is_period g h =
           eqb-false _ _ (f.none (q - 1) (omega arith)) (ap (number g) (path_at g (suc (q - 1) + node_count g) (q + node_count g) (omega arith) ∙ e));
     }
 
-pub around_returns : (g : Graph) (p s : ℕ) → Period g p → around g s p ≡ around g s 0
+pub around_returns : (g : Graph) (p s : ℕ) → IsPeriod g p → around g s p ≡ around g s 0
 around_returns g p s r =
     path_at g (p + (s + node_count g)) (s + (p + node_count g)) (omega arith)
     ∙ path_same g (p + node_count g) (node_count g) r.returns s
     ∙ path_at g (s + node_count g) (0 + (s + node_count g)) (omega arith)
 
-pub around_distinct : (g : Graph) (p s : ℕ) → Period g p → s < p → (a b : ℕ) → a < b → b < p → around g s a ≢ around g s b
+pub around_distinct : (g : Graph) (p s : ℕ) → IsPeriod g p → s < p → (a b : ℕ) → a < b → b < p → around g s a ≢ around g s b
 around_distinct g p s r below a b ab bp e =
     let n = node_count g in
     let t : ℕ = (p + p) - a - s in
@@ -57,7 +55,7 @@ around_distinct g p s r below a b ab bp e =
     path_at g (t + (b + (s + n))) ((b - a) + (p + (p + n))) (omega arith) ∙ path_same g (p + (p + n)) n twice (b - a) in
     r.first (b - a) (omega arith) (omega arith) (sym second ∙ sym moved ∙ first)
 
-pub around_least : (g : Graph) (p s : ℕ) → Period g p → Turn g p s → (t : ℕ) → t < p → number g (around g s 0) ≤ number g (around g s t)
+pub around_least : (g : Graph) (p s : ℕ) → IsPeriod g p → IsLeastPlace g p s → (t : ℕ) → t < p → number g (around g s 0) ≤ number g (around g s t)
 around_least g p s r turn t h =
     let n = node_count g in
     let below : s < p = turn.below in
@@ -72,7 +70,7 @@ around_least g p s r turn t h =
           let l = turn.least u (omega arith) in omega arith
     ]
 
-pub cycle_is_witness : (g : Graph) (p s : ℕ) → has_cycle g ≡ true → Period g p → Turn g p s → IsWitnessCycle g (cycle_nodes g p s)
+pub cycle_is_witness : (g : Graph) (p s : ℕ) → has_cycle g ≡ true → IsPeriod g p → IsLeastPlace g p s → IsWitnessCycle g (cycle_nodes g p s)
 cycle_is_witness g p s h r turn =
     let n = node_count g in
     let below : s < p = turn.below in
@@ -114,7 +112,7 @@ cycle_is_witness g p s h r turn =
     }
 
 -- the least node of the cycle is where it is looked for
-turn_is : (g : Graph) → has_cycle g ≡ true → Turn g (period_of g) (turn_of g)
+turn_is : (g : Graph) → has_cycle g ≡ true → IsLeastPlace g (period_of g) (turn_of g)
 turn_is g h =
     let l = lowest_is (period_of g) (λ t. number g (path g (t + node_count g))) (is_period g h).some in
     record { below = l.below; least = l.least }

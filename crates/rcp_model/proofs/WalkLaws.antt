@@ -10,11 +10,11 @@ use Rattle.rcp_model.specs.Levels.{number, node_of, steps_to, level, goes, has_l
 use Rattle.rcp_model.specs.Shown.{walk_node, walk_nodes}
 use Rattle.rcp_model.specs.Node.{IsLeast}
 use Rattle.rcp_base.specs.Search.{any_below, first_below}
+use Rattle.rcp_model.specs.Recovery.{IsRecovery}
 use Rattle.rcp_model.specs.Witness.{IsWitnessWalk, IsWitnessWalkOf}
-use Rattle.recovery_analysis.specs.Verdict.{IsRecovery}
 use Rattle.rcp_base.proofs.SearchLaws.{any_of, any_found, first_is}
-use Rattle.recovery_analysis.proofs.LevelLemmas.{node_of-number, number-lt, level_unvoted, level_back, level_of_ends, ends_of_level, steps_to_parts, steps_to_from}
-use Rattle.recovery_analysis.proofs.CoreLemmas.{least_of_first, cycle_level}
+use Rattle.rcp_model.proofs.LevelLaws.{node_of-number, number-lt, level_unvoted, level_back, level_of_ends, ends_of_level, steps_to_parts, steps_to_from}
+use Rattle.rcp_model.proofs.CoreLaws.{least_of_first, cycle_level}
 
 pub goes_some : (g : Graph) (k : ℕ) (n : Node) → level g (suc k) n ≡ true → any_below (node_count g) (goes g k n) ≡ true
 goes_some g k n h =

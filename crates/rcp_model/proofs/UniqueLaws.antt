@@ -8,8 +8,8 @@ use Rattle.rcp_model.specs.declared.node.Node.{Node}
 use Rattle.rcp_model.specs.Node.{node_cmp, IsUpTo, IsLeast}
 use Rattle.rcp_model.specs.Walk.{Graph, node_count, StepsTo, at, no_node, EndsWalk}
 use Rattle.rcp_model.specs.Witness.{IsCore, IsBack, IsReached, IsWitnessCycle, IsWitnessWalk}
-use Rattle.recovery_analysis.specs.Levels.{make_node}
-use Rattle.recovery_analysis.proofs.OrderLemmas.{greater, equal}
+use Rattle.rcp_model.specs.Node.{make_node}
+use Rattle.rcp_model.proofs.OrderLaws.{greater, equal}
 
 slots_in_order : (m n : Node) → IsUpTo m n → m.slot ≤ n.slot
 slots_in_order m n h = elim (cases_lt n.slot m.slot) [

@@ -1,0 +1,2 @@
+-- Words of proofs and of private functions, which no promise cites. This project's own.
+pub mod Around
