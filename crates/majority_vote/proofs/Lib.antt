@@ -1,0 +1,2 @@
+mod CandidateLemmas
+mod MiddleLemmas
