@@ -7,7 +7,7 @@ use Rattle.rcp_model.specs.Walk.{Graph}
 use Rattle.rcp_model.specs.Levels.{has_cycle}
 use Rattle.rcp_model.specs.Thinning.{votes_without, without, thinned_at}
 use Rattle.task_graph.specs.Rows.{Rows}
-use Rattle.vote_pattern.specs.Votes.{Votes, Writes, AreVotesOf, is_in, vote_count}
+use Rattle.vote_pattern.specs.Votes.{Votes, ChangesVote, AreVotesOf, is_in, vote_count}
 use Rattle.vote_pattern.specs.Laws.{one_if}
 use Rattle.vote_pattern.proofs.CountLaws.{count_follows}
 use Rattle.recovery_analysis.specs.Graphs.{graph_of, IsOneSize}
@@ -43,7 +43,7 @@ without_is votes new n here others s c = elim (cases_Bool (eqb s n.slot && eqb c
 ]
 
 -- one vote written leaves the votes of other nodes
-pub writes_others : (old new : Votes) (n : Node) (value : Bool) → Writes old new n.slot n.cell value → (s c : ℕ) → make_node s c ≢ n → is_in new s c ≡ is_in old s c
+pub writes_others : (old new : Votes) (n : Node) (value : Bool) → ChangesVote old new n.slot n.cell value → (s c : ℕ) → make_node s c ≢ n → is_in new s c ≡ is_in old s c
 writes_others old new n value w s c ne = elim (cases_eq s n.slot) [
   | inr other_slot ↦ w.other_slots s c other_slot
   | inl same ↦
@@ -72,28 +72,28 @@ absent_is_taken rows votes n size absent none =
     (record { slots = sym size.slots; cells = sym size.cells; each = λ s c p q. same s c })
 
 -- the votes behind the clear
-pub cleared_is_without : (old cleared : Votes) (n : Node) → Writes old cleared n.slot n.cell false → (s c : ℕ) → is_in cleared s c ≡ votes_without (is_in old) n s c
+pub cleared_is_without : (old cleared : Votes) (n : Node) → ChangesVote old cleared n.slot n.cell false → (s c : ℕ) → is_in cleared s c ≡ votes_without (is_in old) n s c
 cleared_is_without old cleared n w = without_is (is_in old) (is_in cleared) n w.here (writes_others old cleared n false w)
 
 -- whether there is an unvoted cycle behind it is what the search answers
-pub search_decides : (rows : Rows) (old cleared : Votes) (n : Node) → IsNode (graph_of rows old) n → Writes old cleared n.slot n.cell false → has_cycle (graph_of rows old) ≡ false → has_cycle (graph_of rows cleared) ≡ comes_back (graph_of rows cleared) n
+pub search_decides : (rows : Rows) (old cleared : Votes) (n : Node) → IsNode (graph_of rows old) n → ChangesVote old cleared n.slot n.cell false → has_cycle (graph_of rows old) ≡ false → has_cycle (graph_of rows cleared) ≡ comes_back (graph_of rows cleared) n
 search_decides rows old cleared n node w none =
     cycle_is_return (graph_of rows old) (graph_of rows cleared) n (alike_votes rows cleared old)
     (λ m ne e. sym (writes_others old cleared n false w m.slot m.cell ne) ∙ e)
     (record { slot_in = node.slot_in; cell_in = node.cell_in; unvoted = w.here }) none
 
-without_has : (rows : Rows) (old cleared : Votes) (n : Node) → Writes old cleared n.slot n.cell false → has_cycle (without (graph_of rows old) n) ≡ has_cycle (graph_of rows cleared)
+without_has : (rows : Rows) (old cleared : Votes) (n : Node) → ChangesVote old cleared n.slot n.cell false → has_cycle (without (graph_of rows old) n) ≡ has_cycle (graph_of rows cleared)
 without_has rows old cleared n w =
     same_cycles (without (graph_of rows old) n) (graph_of rows cleared) (record { slots = refl; cells = refl; feeds = λ s d c p q r. refl })
     (λ s c p q. cleared_is_without old cleared n w s c)
 
-pub cleared_is_taken : (rows : Rows) (old cleared : Votes) (n : Node) → IsOneSize rows old → Writes old cleared n.slot n.cell false → has_cycle (graph_of rows cleared) ≡ false → AreVotesOf (thinned_at (graph_of rows old) n) cleared
+pub cleared_is_taken : (rows : Rows) (old cleared : Votes) (n : Node) → IsOneSize rows old → ChangesVote old cleared n.slot n.cell false → has_cycle (graph_of rows cleared) ≡ false → AreVotesOf (thinned_at (graph_of rows old) n) cleared
 cleared_is_taken rows old cleared n size w none =
     taken (graph_of rows old) n cleared (without_has rows old cleared n w ∙ none)
     (record { slots = w.slots ∙ sym size.slots; cells = w.cells ∙ sym size.cells; each = λ s c p q. cleared_is_without old cleared n w s c })
 
 -- the vote is written back
-pub back_again : (old cleared new : Votes) (n : Node) → is_in old n.slot n.cell ≡ true → Writes old cleared n.slot n.cell false → Writes cleared new n.slot n.cell true → (s c : ℕ) → is_in new s c ≡ is_in old s c
+pub back_again : (old cleared new : Votes) (n : Node) → is_in old n.slot n.cell ≡ true → ChangesVote old cleared n.slot n.cell false → ChangesVote cleared new n.slot n.cell true → (s c : ℕ) → is_in new s c ≡ is_in old s c
 back_again old cleared new n voted w back s c = elim (cases_Bool (eqb s n.slot && eqb c n.cell)) [
   | inl is ↦
       let e : make_node s c ≡ n = same_node (make_node s c) n is in
@@ -103,12 +103,12 @@ back_again old cleared new n voted w back s c = elim (cases_Bool (eqb s n.slot &
       writes_others cleared new n true back s c ne ∙ writes_others old cleared n false w s c ne
 ]
 
-pub written_back_is_kept : (rows : Rows) (old cleared new : Votes) (n : Node) → IsOneSize rows old → is_in old n.slot n.cell ≡ true → Writes old cleared n.slot n.cell false → Writes cleared new n.slot n.cell true → has_cycle (graph_of rows cleared) ≡ true → AreVotesOf (thinned_at (graph_of rows old) n) new
+pub written_back_is_kept : (rows : Rows) (old cleared new : Votes) (n : Node) → IsOneSize rows old → is_in old n.slot n.cell ≡ true → ChangesVote old cleared n.slot n.cell false → ChangesVote cleared new n.slot n.cell true → has_cycle (graph_of rows cleared) ≡ true → AreVotesOf (thinned_at (graph_of rows old) n) new
 written_back_is_kept rows old cleared new n size voted w back some =
     kept (graph_of rows old) n new (without_has rows old cleared n w ∙ some)
     (record { slots = back.slots ∙ w.slots ∙ sym size.slots; cells = back.cells ∙ w.cells ∙ sym size.cells; each = λ s c p q. back_again old cleared new n voted w back s c })
 
-pub written_back_has_none : (rows : Rows) (old cleared new : Votes) (n : Node) → is_in old n.slot n.cell ≡ true → Writes old cleared n.slot n.cell false → Writes cleared new n.slot n.cell true → has_cycle (graph_of rows old) ≡ false → has_cycle (graph_of rows new) ≡ false
+pub written_back_has_none : (rows : Rows) (old cleared new : Votes) (n : Node) → is_in old n.slot n.cell ≡ true → ChangesVote old cleared n.slot n.cell false → ChangesVote cleared new n.slot n.cell true → has_cycle (graph_of rows old) ≡ false → has_cycle (graph_of rows new) ≡ false
 written_back_has_none rows old cleared new n voted w back none =
     sym (same_cycles (graph_of rows old) (graph_of rows new) (alike_votes rows old new) (λ s c p q. back_again old cleared new n voted w back s c)) ∙ none
 
@@ -138,7 +138,7 @@ try_alike g h n votes a same are =
     ]
 
 -- the count of votes behind a try
-pub count_taken : (rows : Rows) (old cleared : Votes) (n : Node) → IsOneSize rows old → IsNode (graph_of rows old) n → is_in old n.slot n.cell ≡ true → Writes old cleared n.slot n.cell false → vote_count cleared + 1 ≡ vote_count old
+pub count_taken : (rows : Rows) (old cleared : Votes) (n : Node) → IsOneSize rows old → IsNode (graph_of rows old) n → is_in old n.slot n.cell ≡ true → ChangesVote old cleared n.slot n.cell false → vote_count cleared + 1 ≡ vote_count old
 count_taken rows old cleared n size node voted w =
     let slots : rows.slots ≡ old.slots = size.slots in
     let cells : rows.cells ≡ old.cells = size.cells in
@@ -148,7 +148,7 @@ count_taken rows old cleared n size node voted w =
     let one : one_if (is_in old n.slot n.cell) ≡ 1 = ap one_if voted in
     omega arith
 
-pub count_kept : (rows : Rows) (old cleared new : Votes) (n : Node) → IsOneSize rows old → IsNode (graph_of rows old) n → is_in old n.slot n.cell ≡ true → Writes old cleared n.slot n.cell false → Writes cleared new n.slot n.cell true → vote_count new ≡ vote_count old
+pub count_kept : (rows : Rows) (old cleared new : Votes) (n : Node) → IsOneSize rows old → IsNode (graph_of rows old) n → is_in old n.slot n.cell ≡ true → ChangesVote old cleared n.slot n.cell false → ChangesVote cleared new n.slot n.cell true → vote_count new ≡ vote_count old
 count_kept rows old cleared new n size node voted w back =
     let slots : rows.slots ≡ old.slots = size.slots in
     let cells : rows.cells ≡ old.cells = size.cells in

@@ -1,12 +1,12 @@
 -- Words as sets of small numbers: a test of one number, one number more or less, the first, and those of two words.
-use Rattle.std.proofs.Common.{max, min, ◌≡◌, ℕ, ◌*◌, ◌%◌, ◌^◌, ◌<◌, ◌≤◌, zero, suc, true, false, not, eqb, refl, ◌∙◌, ap, inl, inr, arith, zero-mul, w64}
+use Rattle.std.proofs.Common.{max, min, ◌≡◌, ℕ, ◌*◌, ◌%◌, ◌^◌, ◌<◌, ◌≤◌, ◌-◌, zero, suc, true, false, not, eqb, ltb, refl, sym, ◌∙◌, ap, inl, inr, arith, zero-mul, w64}
 use Rattle.std.specs.Prelude.{bit_and, ◌||◌, ◌&&◌}
 use Rattle.std.specs.Int.{bit_at, bit_not, trailing_zeros}
 use Rattle.std.specs.Int.Bits.{bit_or}
-use Rattle.std.proofs.lemmas.Bool.{cases_lt, eq-eqb, ne_eqb}
+use Rattle.std.proofs.lemmas.Bool.{cases_lt, lt-ltb, le-ltb, eq-eqb, ne_eqb}
 use Rattle.std.proofs.lemmas.Nat.{one_shl, pow_pos}
-use Rattle.std.proofs.lemmas.Nat.Bits.{and_pow, bit_at_and, bit_at_or, bit_at-lt, bit_at-zero, bit_at_above, bit_at_set_same, bit_at_set_other, bit_at_clear_same, bit_at_clear_other, bit_at-trailing_zeros}
-use Rattle.rcp_base.specs.Bits.{has_bit, WritesBit}
+use Rattle.std.proofs.lemmas.Nat.Bits.{and_pow, bit_at_and, bit_at_or, bit_at-lt, bit_at-zero, bit_at_above, bit_at_set_same, bit_at_set_other, bit_at_clear_same, bit_at_clear_other, bit_at_mask_inside, bit_at_mask_above, bit_at-trailing_zeros}
+use Rattle.rcp_base.specs.Bits.{has_bit, WritesBit, AreBelow}
 use Rattle.rcp_base.specs.Search.{IsFirst}
 
 bit_test : (b p : ℕ) → b < 2 → 0 < p → not (eqb (b * p) 0) ≡ eqb b 1
@@ -53,6 +53,19 @@ pub first_of_word : (w : ℕ) → 0 < w → w < 2 ^ 64 → IsFirst 64 (has_bit w
 first_of_word w some fits =
     let t = bit_at-trailing_zeros w64 w some fits in
     record { below = t.0; passes = eq-eqb _ _ t.1; none = λ i l. ap (λ (x : ℕ). eqb x 1) (t.2 i l) }
+
+-- the numbers below another
+mask_below : (n : ℕ) → AreBelow (2 ^ n - 1) n
+mask_below n i = elim (cases_lt i n) [
+  | inl a ↦ eq-eqb _ _ (bit_at_mask_inside 0 n i (omega arith) a) ∙ sym (lt-ltb i n a)
+  | inr a ↦ ap (λ (x : ℕ). eqb x 1) (bit_at_mask_above 0 n i a) ∙ sym (le-ltb i n a)
+]
+
+pub all_below_word : (n : ℕ) → n ≡ 64 → AreBelow 18_446_744_073_709_551_615 n
+all_below_word n e i = mask_below 64 i ∙ ap (λ (x : ℕ). ltb i x) (sym e)
+
+pub below_word : (n : ℕ) → n < 64 → AreBelow (1 * 2 ^ n % 2 ^ 64 - 1) n
+below_word n h i = ap (λ (x : ℕ). has_bit (x - 1) i) (one_shl n 64 h) ∙ mask_below n i
 
 pub has_bit_zero : (i : ℕ) → has_bit 0 i ≡ false
 has_bit_zero i = ap (λ (x : ℕ). eqb x 1) (bit_at-zero i)

@@ -1,8 +1,7 @@
 //! Words as sets of the numbers below 64.
 //! This project's own.
-ghost use Rattle.std.specs.Prelude.{◌≡◌, ◌<◌, ℕ, true, false, MatchOption};
+ghost use Rattle.std.specs.Prelude.{◌≡◌, ◌<◌, ◌≤◌, true, false};
 ghost use Rattle.rcp_base.specs.Bits as spec;
-ghost use Rattle.rcp_base.specs.Search.{IsFirst};
 
 /// Whether the number is in the word.
 pub fn has_bit(word: u64, number: u32) -> bool
@@ -28,9 +27,21 @@ pub fn without_bit(word: u64, number: u32) -> u64
     word & !(1 << number)
 }
 
+/// The word of the numbers below.
+pub fn bits_below(number: u32) -> u64
+    requires { number ≤ 64 }
+    ensures { spec.AreBelow result number }
+{
+    if number == 64 {
+        u64::MAX
+    } else {
+        (1 << number) - 1
+    }
+}
+
 /// The least number in the word.
 pub fn first_bit(word: u64) -> Option<u32>
-    ensures { MatchOption result ((number : ℕ) → spec.has_bit word number ≡ false) (IsFirst 64 (spec.has_bit word)) }
+    ensures { spec.IsFirstBit word result }
 {
     if word == 0 {
         None

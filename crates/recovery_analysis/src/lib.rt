@@ -9,6 +9,3 @@ mod verdict;
 mod walks;
 
 pub use verdict::{Verdict, analyse};
-
-#[cfg(test)]
-mod tests;

@@ -5,7 +5,7 @@ use Rattle.std.proofs.lemmas.Bool.{cases_lt, cases_eq, lt-ltb, le-ltb, eq-eqb, n
 use Rattle.std.proofs.lemmas.Nat.Bits.{bit_at-pow_same, bit_at-pow_other}
 use Rattle.rcp_base.specs.Bits.{has_bit}
 use Rattle.rcp_base.proofs.BitLaws.{has_bit_zero}
-use Rattle.task_graph.specs.Masks.{bit_of, mask_if}
+use Rattle.task_graph.specs.inner.Masks.{bit_of, mask_if}
 
 pub has_bit_if : (counts : Bool) (mask i : ℕ) → has_bit (mask_if counts mask) i ≡ (counts && has_bit mask i)
 has_bit_if true mask i = refl

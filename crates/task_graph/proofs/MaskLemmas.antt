@@ -14,7 +14,7 @@ use Rattle.rcp_model.specs.declared.task.Task.{Task}
 use Rattle.rcp_model.specs.Task.{written}
 use Rattle.rcp_model.specs.Dependence.{reads, reads_step, lets_reading_after, leads, leads_by}
 use Rattle.rcp_base.specs.Bits.{has_bit}
-use Rattle.task_graph.specs.Masks.{mask_of, mask_step, let_masks, let_masks_after, mask_by, task_row}
+use Rattle.task_graph.specs.inner.Masks.{mask_of, mask_step, let_masks, let_masks_after, mask_by, task_row}
 use Rattle.task_graph.proofs.Trees.{map-map}
 use Rattle.rcp_base.proofs.BitLaws.{has_bit_or, has_bit_zero}
 use Rattle.task_graph.proofs.BitLemmas.{has_bit_of}

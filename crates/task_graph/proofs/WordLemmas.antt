@@ -1,8 +1,8 @@
 -- The bits of a word over a slot's tasks are the cells that feed the cell.
-use Rattle.std.proofs.Common.{◌≡◌, ℕ, ◌+◌, ◌*◌, ◌<◌, ◌≤◌, zero, suc, true, eqb, List, [], ◌∷◌, ◌++◌, length, length-append, get_or, inl, inr, refl, sym, ◌∙◌, ap, ap₂, subst, arith}
-use Rattle.std.specs.Prelude.{◌||◌, ◌&&◌, nat_lt}
+use Rattle.std.proofs.Common.{◌≡◌, ℕ, ◌+◌, ◌*◌, ◌<◌, ◌≤◌, zero, suc, true, false, eqb, List, [], ◌∷◌, ◌++◌, length, length-append, get_or, inl, inr, refl, sym, ◌∙◌, ap, ap₂, subst, arith}
+use Rattle.std.specs.Prelude.{◌||◌, ◌&&◌, nat_lt, bit_and}
 use Rattle.std.proofs.lemmas.Bool.{cases_lt, lt-ltb, le-ltb, eq-eqb, eqb-true, cond-true, cond-false, and_parts, and_from}
-use Rattle.std.proofs.Math.Bool.{and_comm}
+use Rattle.std.proofs.Math.Bool.{and_comm, and-true, and-false}
 use Rattle.std.proofs.lemmas.List.{get_or_default, get_or_past, get_or-map, length-map, get_or_append_left, get_or-append-add}
 use Rattle.std.proofs.lemmas.Nat.{mul-add-lt}
 use Rattle.rcp_base.proofs.TableLaws.{get_or-table, length-table}
@@ -13,10 +13,10 @@ use Rattle.rcp_model.specs.Task.{written}
 use Rattle.rcp_model.specs.Slot.{no_task, no_slot, numbered, slot_count}
 use Rattle.rcp_base.specs.Search.{any_below}
 use Rattle.rcp_model.specs.Dependence.{leads, feeds_through, feeds}
-use Rattle.rcp_base.specs.Bits.{has_bit}
-use Rattle.task_graph.specs.Masks.{mask_if, let_masks, mask_by, task_row, task_rows, union_below, word_before, word_over, slot_words, plan_words}
-use Rattle.task_graph.specs.Rows.{Rows, needs_in, IsDependenceOf}
-use Rattle.rcp_base.proofs.BitLaws.{has_bit_or, has_bit_zero}
+use Rattle.rcp_base.specs.Bits.{has_bit, AreBelow}
+use Rattle.task_graph.specs.inner.Masks.{mask_if, let_masks, mask_by, task_row, task_rows, union_below, word_before, word_over, slot_words, plan_words}
+use Rattle.task_graph.specs.Rows.{Rows, needs_in, AreNeeds, IsDependenceOf}
+use Rattle.rcp_base.proofs.BitLaws.{has_bit_and, has_bit_or, has_bit_zero}
 use Rattle.task_graph.proofs.BitLemmas.{has_bit_if, has_bit_of}
 use Rattle.task_graph.proofs.MaskLemmas.{row_leads}
 use Rattle.rcp_base.proofs.SearchLaws.{any_more, any_same, any_of, any_found, both_or_none}
@@ -140,6 +140,36 @@ asked view rows slot cell from word same first second third long is =
     let place : slot * rows.cells + cell < length rows.words = omega (arith, below, full) in
     ap (λ w. has_bit w from) (is ∙ ap (λ r. get_or r.words (slot * r.cells + cell) word) same ∙ get_or_default rows.words (slot * rows.cells + cell) word 0 place)
     ∙ sym (needs_here rows slot cell from first second third)
+
+-- nothing is needed past the last cell
+needs_past : (rows : Rows) (slot cell from : ℕ) → slot < rows.slots → cell < rows.cells → rows.cells ≤ from → needs_in rows slot cell from ≡ false
+unfolding needs_in
+needs_past rows slot cell from first second past =
+    let p : nat_lt slot rows.slots ≡ true = lt-ltb slot rows.slots first in
+    let q : nat_lt cell rows.cells ≡ true = lt-ltb cell rows.cells second in
+    let r : nat_lt from rows.cells ≡ false = le-ltb from rows.cells past in
+    rw (p, q, r) refl
+
+-- nor is any bit there of a word with the bits of cells alone
+pub asked_all :
+    (view rows : Rows) (slot cell word mask : ℕ) → view ≡ rows → slot < rows.slots → cell < rows.cells
+    → length view.words ≡ view.slots * view.cells
+    → word ≡ get_or view.words (slot * view.cells + cell) word
+    → AreBelow mask rows.cells
+    → AreNeeds rows slot cell (bit_and word mask)
+asked_all view rows slot cell word mask same first second long is below from =
+    let both : has_bit (bit_and word mask) from ≡ (has_bit word from && nat_lt from rows.cells) =
+    has_bit_and word mask from ∙ ap (λ b. has_bit word from && b) (below from) in
+    elim (cases_lt from rows.cells) [
+      | inl inside ↦
+          let third : nat_lt from rows.cells ≡ true = lt-ltb from rows.cells inside in
+          both ∙ ap (λ b. has_bit word from && b) third ∙ and-true (has_bit word from)
+          ∙ asked view rows slot cell from word same first second inside long is
+      | inr past ↦
+          let third : nat_lt from rows.cells ≡ false = le-ltb from rows.cells past in
+          both ∙ ap (λ b. has_bit word from && b) third ∙ and-false (has_bit word from)
+          ∙ sym (needs_past rows slot cell from first second past)
+    ]
 
 -- the rows that are built of a plan
 abbrev rows_of : PlanParts → Rows

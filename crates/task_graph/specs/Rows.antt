@@ -14,18 +14,20 @@ pub record Rows : Type 0 where
 -- the cell needs that other in the slot
 unfoldable pub needs_in : Rows → ℕ → ℕ → ℕ → Bool
 needs_in rows slot cell from =
-    nat_lt slot rows.slots && nat_lt cell rows.cells && nat_lt from rows.cells && has_bit (slice_index_or rows.words (slot * rows.cells + cell) 0) from
+    nat_lt slot rows.slots && nat_lt cell rows.cells && nat_lt from rows.cells
+    && has_bit (slice_index_or rows.words (slot * rows.cells + cell) 0) from
 
--- the bits of the word, as far as there are cells, are the cells that the cell needs in the slot
+-- the bits of the word are the cells that the cell needs in the slot
 abbrev pub AreNeeds : Rows → ℕ → ℕ → ℕ → Type 0
-AreNeeds rows slot cell word = (from : ℕ) → from < rows.cells → has_bit word from ≡ needs_in rows slot cell from
+AreNeeds rows slot cell word = (from : ℕ) → has_bit word from ≡ needs_in rows slot cell from
 
 -- the rows say of each slot of a graph which cell feeds which
 pub record AreFeedsOf (g : Graph) (rows : Rows) : Type 0 where
   pub slots : rows.slots ≡ g.slots
   pub cells : rows.cells ≡ g.cells
   pub needs :
-      (slot cell from : ℕ) → slot < g.slots → cell < g.cells → from < g.cells → needs_in rows slot cell from ≡ g.feeds slot from cell
+      (slot cell from : ℕ) → slot < g.slots → cell < g.cells → from < g.cells
+      → needs_in rows slot cell from ≡ g.feeds slot from cell
 
 -- they say so of a plan
 abbrev pub IsDependenceOf : PlanParts → Rows → Type 0

@@ -2,7 +2,7 @@
 //! This project's own.
 ghost use Rattle.std.specs.Prelude.{◌≡◌};
 ghost use Rattle.rcp_base.specs.Bits.{has_bit};
-ghost use Rattle.task_graph.specs.Masks as spec;
+ghost use Rattle.task_graph.specs.inner.Masks as spec;
 
 use rcp_base::bits;
 

@@ -8,7 +8,4 @@ mod masks;
 mod rows;
 mod words;
 
-pub use rows::{DepRows, rows_of};
-
-#[cfg(test)]
-mod tests;
+pub use rows::DepRows;

@@ -1,7 +1,7 @@
 //! The cells that an expression reads, and those that lead to a cell over a task.
 //! This project's own.
 ghost use Rattle.std.specs.Prelude.{◌≡◌, [], IfOk, slice_index_or};
-ghost use Rattle.task_graph.specs.Masks as spec;
+ghost use Rattle.task_graph.specs.inner.Masks as spec;
 ghost use Rattle.rcp_model.specs.Task.{expression_for};
 
 use crate::bits::bit_of;

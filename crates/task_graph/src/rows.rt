@@ -1,12 +1,13 @@
 //! Which cells each cell needs in each slot.
 //! This project's own.
-ghost use Rattle.std.specs.Prelude.{◌≡◌, ◌<◌, ◌≤◌, length, IfOk};
+ghost use Rattle.std.specs.Prelude.{◌≡◌, ◌<◌, ◌≤◌, ◌*◌, length, IfOk};
+ghost use Rattle.rcp_base.specs.declared.TheConstants.{MAX_CELLS, MAX_SLOTS};
 ghost use Rattle.task_graph.specs.Rows.{AreNeeds, needs_in, IsDependenceOf};
 
 use crate::bits::has_cell;
 use crate::masks::task_rows;
 use crate::words::plan_words;
-use rcp_base::Memory;
+use rcp_base::{Memory, bits};
 use rcp_model::{Plan, PlanParts};
 use std::alloc::Global;
 use std::marker::Model;
@@ -21,6 +22,7 @@ pub struct DepRows {
 
 impl Model for DepRows {
     ghost use Rattle.std.specs.Prelude.{◌≡◌, ◌*◌, ◌≤◌, length};
+    ghost use Rattle.rcp_base.specs.declared.TheConstants.{MAX_CELLS, MAX_SLOTS};
     ghost use Rattle.task_graph.specs.Rows.{Rows};
 
     ghost Value = { Rows };
@@ -32,8 +34,8 @@ impl Model for DepRows {
     } };
 
     ghost invariant = { λ rows. (length rows.words.items ≡ rows.slots * rows.cells)
-        × (rows.slots ≤ 32)
-        × (rows.cells ≤ 64) };
+        × (rows.slots ≤ MAX_SLOTS)
+        × (rows.cells ≤ MAX_CELLS) };
 }
 
 impl DepRows {
@@ -47,7 +49,7 @@ impl DepRows {
     /// How many slots there are.
     pub fn slots(&self) -> u32
         ensures value { result ≡ self.now.slots }
-        ensures most { result ≤ 32 }
+        ensures most { result ≤ MAX_SLOTS }
     {
         self.slots
     }
@@ -55,18 +57,27 @@ impl DepRows {
     /// How many cells there are.
     pub fn cells(&self) -> u32
         ensures value { result ≡ self.now.cells }
-        ensures most { result ≤ 64 }
+        ensures most { result ≤ MAX_CELLS }
     {
         self.cells
     }
 
-    /// The cells that the cell needs in the slot, as bits.
+    /// How many nodes there are: pairs of slot and cell.
+    pub fn node_count(&self) -> u32
+        ensures value { result ≡ self.now.slots * self.now.cells }
+        ensures most { result ≤ MAX_SLOTS * MAX_CELLS }
+    {
+        self.slots * self.cells
+    }
+
+    /// The cells that the cell needs in the slot, as bits, and no other.
     pub fn word(&self, slot: u32, cell: u32) -> u64
         requires slot { slot < self.now.slots }
         requires cell { cell < self.now.cells }
         ensures { AreNeeds self.now slot cell result }
     {
-        self.words[slot as usize * self.cells as usize + cell as usize]
+        let needed = self.words[slot as usize * self.cells as usize + cell as usize];
+        needed & bits::bits_below(self.cells)
     }
 
     /// The cell needs that other in the slot.
@@ -81,10 +92,10 @@ impl DepRows {
     }
 }
 
-/// Which cells each cell of parts needs, whether or not they keep the other rules of a plan.
-pub fn rows_of(alloc: Global, parts: &PlanParts) -> Result<DepRows, Memory>
-    requires cells { length parts.now.cells ≤ 64 }
-    requires slots { length parts.now.slots ≤ 32 }
+// Which cells each cell of parts needs, whether or not they keep the other rules of a plan.
+fn rows_of(alloc: Global, parts: &PlanParts) -> Result<DepRows, Memory>
+    requires cells { length parts.now.cells ≤ MAX_CELLS }
+    requires slots { length parts.now.slots ≤ MAX_SLOTS }
     ensures { IfOk result (IsDependenceOf parts.now) }
 {
     let cells = parts.cells.len() as u32;

@@ -1,7 +1,7 @@
 //! The cells that feed a cell over the tasks of a slot, from the last task to the first.
 //! This project's own.
 ghost use Rattle.std.specs.Prelude.{◌≡◌, ◌++◌, length, IfOk, OnOk};
-ghost use Rattle.task_graph.specs.Masks as spec;
+ghost use Rattle.task_graph.specs.inner.Masks as spec;
 
 use crate::bits::{bit_of, has_cell, mask_if};
 use rcp_base::{List, Memory};

@@ -11,7 +11,7 @@ use Rattle.std.specs.Prelude.{count_ones}
 use Rattle.std.specs.Int.{bit_at}
 use Rattle.std.specs.List.{range_with_len, sum_by, count_by}
 use Rattle.rcp_base.specs.Bits.{has_bit}
-use Rattle.vote_pattern.specs.Bits.{number_count}
+use Rattle.vote_pattern.specs.inner.Numbers.{number_count}
 
 range_more : (n : ℕ) → range_with_len 0 (n + 1) ≡ range_with_len 0 n ++ n ∷ []
 range_more n = sym (map-id _) ∙ map-range_with_len_more (λ (x : ℕ). x) 0 n n (omega arith) ∙ ap (λ (xs : List ℕ). xs ++ n ∷ []) (map-id _)

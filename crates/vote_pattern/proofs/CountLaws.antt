@@ -4,7 +4,7 @@ use Rattle.std.proofs.lemmas.Bool.{cases_eq}
 use Rattle.std.proofs.lemmas.List.Sums.{length-filter}
 use Rattle.std.specs.List.{range_with_len, sum_by}
 use Rattle.vote_pattern.specs.Laws.{one_if}
-use Rattle.vote_pattern.specs.Votes.{Votes, Writes, is_in, votes_at, vote_count}
+use Rattle.vote_pattern.specs.Votes.{Votes, ChangesVote, is_in, votes_at, vote_count}
 use Rattle.vote_pattern.proofs.BitLemmas.{same_sums, sum_suc}
 
 -- sums that differ in one place alone differ by what stands there
@@ -31,7 +31,7 @@ unfolding votes_at
 votes_of_slot votes slot = length-filter (is_in votes slot) (range_with_len 0 votes.cells)
 
 -- the votes of the slot
-slot_count_follows : (old new : Votes) (slot cell : ℕ) (value : Bool) → cell < old.cells → Writes old new slot cell value
+slot_count_follows : (old new : Votes) (slot cell : ℕ) (value : Bool) → cell < old.cells → ChangesVote old new slot cell value
     → length (votes_at new slot) + one_if (is_in old slot cell) ≡ length (votes_at old slot) + one_if (is_in new slot cell)
 slot_count_follows old new slot cell value c writes =
     let f = λ (k : ℕ). one_if (is_in old slot k) in
@@ -43,14 +43,14 @@ slot_count_follows old new slot cell value c writes =
     omega arith
 
 -- another slot has the votes that it had
-same_slot : (old new : Votes) (slot cell : ℕ) (value : Bool) → Writes old new slot cell value → (other : ℕ) → other ≢ slot
+same_slot : (old new : Votes) (slot cell : ℕ) (value : Bool) → ChangesVote old new slot cell value → (other : ℕ) → other ≢ slot
     → length (votes_at new other) ≡ length (votes_at old other)
 same_slot old new slot cell value writes other ne =
     votes_of_slot new other ∙ ap (λ (n : ℕ). sum_by (λ (k : ℕ). one_if (is_in new other k)) (range_with_len 0 n)) writes.cells
     ∙ same_sums _ _ old.cells (λ k h. ap one_if (writes.other_slots other k ne)) ∙ sym (votes_of_slot old other)
 
 -- all votes
-pub count_follows : (old new : Votes) (slot cell : ℕ) (value : Bool) → slot < old.slots → cell < old.cells → Writes old new slot cell value
+pub count_follows : (old new : Votes) (slot cell : ℕ) (value : Bool) → slot < old.slots → cell < old.cells → ChangesVote old new slot cell value
     → vote_count new + one_if (is_in old slot cell) ≡ vote_count old + one_if value
 unfolding vote_count
 count_follows old new slot cell value s c writes =

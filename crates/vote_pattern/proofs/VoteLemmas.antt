@@ -10,9 +10,9 @@ use Rattle.rcp_model.specs.declared.plan.PlanParts.{PlanParts}
 use Rattle.rcp_model.specs.Slot.{no_slot}
 use Rattle.rcp_model.specs.Messages.{is_voted}
 use Rattle.rcp_base.specs.Bits.{has_bit, WritesBit}
-use Rattle.vote_pattern.specs.Bits.{number_count, AreBitsOf}
-use Rattle.vote_pattern.specs.Votes.{Votes, word_at, is_in, votes_at, vote_count, no_votes, Writes, IsPatternOf, AreVotesOver}
-use Rattle.vote_pattern.specs.PatternFields.{AreWords}
+use Rattle.vote_pattern.specs.inner.Numbers.{number_count, AreBitsOf}
+use Rattle.vote_pattern.specs.Votes.{Votes, word_at, is_in, votes_at, vote_count, no_votes, ChangesVote, IsPatternOf, AreVotesOver}
+use Rattle.vote_pattern.specs.inner.PatternFields.{AreSlotWords}
 use Rattle.rcp_base.proofs.BitLaws.{has_bit_zero}
 use Rattle.vote_pattern.proofs.BitLemmas.{none_past, same_sums, sum_more}
 
@@ -43,7 +43,7 @@ none_in slots cells slot cell =
     let empty : has_bit (get_or (zeros slots) slot 0) cell ≡ false = ap (λ (w : ℕ). has_bit w cell) (zero_word slots slot) ∙ has_bit_zero cell in
     rw empty (and_false (ltb slot slots) (ltb cell cells))
 
-pub none_are_words : (slots cells : ℕ) → slots ≤ 32 → cells ≤ 64 → AreWords (no_votes slots cells)
+pub none_are_words : (slots cells : ℕ) → slots ≤ 32 → cells ≤ 64 → AreSlotWords (no_votes slots cells)
 none_are_words slots cells s c = record {
   few_slots = s;
   few_cells = c;
@@ -55,15 +55,15 @@ none_are_words slots cells s c = record {
 abbrev pub with_word : Votes → ℕ → ℕ → Votes
 with_word votes slot word = record votes { words = set votes.words slot word }
 
-same_word : (votes : Votes) (slot word : ℕ) → AreWords votes → slot < votes.slots → word_at (with_word votes slot word) slot ≡ word
+same_word : (votes : Votes) (slot word : ℕ) → AreSlotWords votes → slot < votes.slots → word_at (with_word votes slot word) slot ≡ word
 same_word votes slot word are s = let long = are.words in get_or-set_same votes.words slot word 0 (omega arith)
 
 other_word : (votes : Votes) (slot word other : ℕ) → other ≢ slot → word_at (with_word votes slot word) other ≡ word_at votes other
 other_word votes slot word other ne = get_or-set_other votes.words slot other word 0 ne
 
 -- one bit written is one vote written
-pub bit_is_vote : (votes : Votes) (slot cell word : ℕ) (value : Bool) → AreWords votes → slot < votes.slots → cell < votes.cells
-    → WritesBit (word_at votes slot) word cell value → Writes votes (with_word votes slot word) slot cell value
+pub bit_is_vote : (votes : Votes) (slot cell word : ℕ) (value : Bool) → AreSlotWords votes → slot < votes.slots → cell < votes.cells
+    → WritesBit (word_at votes slot) word cell value → ChangesVote votes (with_word votes slot word) slot cell value
 unfolding is_in
 bit_is_vote votes slot cell word value are s c bit = record {
   slots = refl;
@@ -75,8 +75,8 @@ bit_is_vote votes slot cell word value are s c bit = record {
 }
 
 -- and leaves no cell past the last
-pub still_words : (votes : Votes) (slot cell word : ℕ) (value : Bool) → AreWords votes → slot < votes.slots → cell < votes.cells
-    → WritesBit (word_at votes slot) word cell value → AreWords (with_word votes slot word)
+pub still_words : (votes : Votes) (slot cell word : ℕ) (value : Bool) → AreSlotWords votes → slot < votes.slots → cell < votes.cells
+    → WritesBit (word_at votes slot) word cell value → AreSlotWords (with_word votes slot word)
 still_words votes slot cell word value are s c bit = record {
   few_slots = are.few_slots;
   few_cells = are.few_cells;
@@ -91,29 +91,29 @@ still_words votes slot cell word value are s c bit = record {
 }
 
 -- the same of a word as it was read
-read_bit : (votes : Votes) (slot cell read word : ℕ) (value : Bool) → AreWords votes → slot < votes.slots
+read_bit : (votes : Votes) (slot cell read word : ℕ) (value : Bool) → AreSlotWords votes → slot < votes.slots
     → read ≡ get_or votes.words slot read → WritesBit read word cell value → WritesBit (word_at votes slot) word cell value
 read_bit votes slot cell read word value are s is bit =
     let long = are.words in
     subst (λ (old : ℕ). WritesBit old word cell value) (get_or_read votes.words slot read (omega arith) is 0) bit
 
-pub read_is_vote : (votes now : Votes) (slot cell read word : ℕ) (value : Bool) → AreWords votes → votes ≡ now → slot < now.slots → cell < now.cells
-    → read ≡ get_or votes.words slot read → WritesBit read word cell value → Writes now (with_word votes slot word) slot cell value
+pub read_is_vote : (votes now : Votes) (slot cell read word : ℕ) (value : Bool) → AreSlotWords votes → votes ≡ now → slot < now.slots → cell < now.cells
+    → read ≡ get_or votes.words slot read → WritesBit read word cell value → ChangesVote now (with_word votes slot word) slot cell value
 read_is_vote votes now slot cell read word value are same s c is bit =
     let s' : slot < votes.slots = omega (arith, ap (λ (v : Votes). v.slots) same) in
     let c' : cell < votes.cells = omega (arith, ap (λ (v : Votes). v.cells) same) in
-    subst (λ (old : Votes). Writes old (with_word votes slot word) slot cell value) same
+    subst (λ (old : Votes). ChangesVote old (with_word votes slot word) slot cell value) same
     (bit_is_vote votes slot cell word value are s' c' (read_bit votes slot cell read word value are s' is bit))
 
-pub read_keeps_words : (votes now : Votes) (slot cell read word : ℕ) (value : Bool) → AreWords votes → votes ≡ now → slot < now.slots → cell < now.cells
-    → read ≡ get_or votes.words slot read → WritesBit read word cell value → AreWords (with_word votes slot word)
+pub read_keeps_words : (votes now : Votes) (slot cell read word : ℕ) (value : Bool) → AreSlotWords votes → votes ≡ now → slot < now.slots → cell < now.cells
+    → read ≡ get_or votes.words slot read → WritesBit read word cell value → AreSlotWords (with_word votes slot word)
 read_keeps_words votes now slot cell read word value are same s c is bit =
     let s' : slot < votes.slots = omega (arith, ap (λ (v : Votes). v.slots) same) in
     let c' : cell < votes.cells = omega (arith, ap (λ (v : Votes). v.cells) same) in
     still_words votes slot cell word value are s' c' (read_bit votes slot cell read word value are s' is bit)
 
 -- a slot votes as many cells as its word has numbers
-slot_numbers : (votes : Votes) (slot : ℕ) → AreWords votes → slot < votes.slots → length (votes_at votes slot) ≡ number_count (word_at votes slot)
+slot_numbers : (votes : Votes) (slot : ℕ) → AreSlotWords votes → slot < votes.slots → length (votes_at votes slot) ≡ number_count (word_at votes slot)
 unfolding votes_at number_count
 slot_numbers votes slot are s =
     length-filter (is_in votes slot) (range_with_len 0 votes.cells)
@@ -131,7 +131,7 @@ numbers_to words (suc n) h =
     ∙ ap (λ (k : ℕ). sum_by number_count (take k words)) (add-one n)
 
 -- there are as many votes as numbers
-pub numbers_are_votes : (votes : Votes) → AreWords votes → sum_by number_count votes.words ≡ vote_count votes
+pub numbers_are_votes : (votes : Votes) → AreSlotWords votes → sum_by number_count votes.words ≡ vote_count votes
 unfolding vote_count
 numbers_are_votes votes are =
     let long = are.words in
@@ -153,7 +153,7 @@ none_of_row rows cells slot cell over s h = list_any_none _ _ (λ k d l.
 -- they are the pattern of the plan
 pub words_of_plan : (plan : PlanParts) (words : List ℕ) → length plan.slots ≤ 32 → length plan.cells ≤ 64
     → AreVotesOver (length plan.cells) plan.slots → AreWordsOf plan.slots words
-    → AreWords (record { slots = length plan.slots; cells = length plan.cells; words = words })
+    → AreSlotWords (record { slots = length plan.slots; cells = length plan.cells; words = words })
 words_of_plan plan words s c over are = record {
   few_slots = s;
   few_cells = c;
@@ -174,7 +174,7 @@ pattern_of_plan plan words are = record {
 }
 
 -- a bit of a word as it was read is a vote
-pub read_is_in : (votes now : Votes) (slot cell read : ℕ) → AreWords votes → votes ≡ now → slot < now.slots → cell < now.cells
+pub read_is_in : (votes now : Votes) (slot cell read : ℕ) → AreSlotWords votes → votes ≡ now → slot < now.slots → cell < now.cells
     → read ≡ get_or votes.words slot read → has_bit read cell ≡ is_in now slot cell
 read_is_in votes now slot cell read are same s c is =
     let long = are.words in

@@ -1,4 +1,3 @@
-pub mod Bits
 pub mod Votes
-pub mod PatternFields
 pub mod Laws
+pub mod inner

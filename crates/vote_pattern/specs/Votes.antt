@@ -34,7 +34,7 @@ abbrev pub no_votes : ℕ → ℕ → Votes
 no_votes slots cells = record { slots = slots; cells = cells; words = replicate slots 0 }
 
 -- one slot's vote of one cell is given or taken away, and all else is as before
-pub record Writes (old new : Votes) (slot cell : ℕ) (value : Bool) : Type 0 where
+pub record ChangesVote (old new : Votes) (slot cell : ℕ) (value : Bool) : Type 0 where
   pub slots : new.slots ≡ old.slots
   pub cells : new.cells ≡ old.cells
   pub here : is_in new slot cell ≡ value

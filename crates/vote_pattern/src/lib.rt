@@ -7,6 +7,3 @@ pub mod laws;
 mod pattern;
 
 pub use pattern::Pattern;
-
-#[cfg(test)]
-mod tests;

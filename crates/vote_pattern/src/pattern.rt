@@ -1,9 +1,10 @@
 //! A vote pattern.
 //! After NASA TM-102716; the words are this project's own.
 ghost use Rattle.std.specs.Prelude.{◌≡◌, ℕ, ◌<◌, ◌≤◌, true, false, All, length, IfOk};
+ghost use Rattle.rcp_base.specs.declared.TheConstants.{MAX_CELLS, MAX_SLOTS};
 ghost use Rattle.rcp_model.specs.declared.plan.PlanParts.{PlanParts};
-ghost use Rattle.vote_pattern.specs.Bits.{AreBitsOf};
-ghost use Rattle.vote_pattern.specs.Votes.{AreVotesOver, IsPatternOf, Writes, is_in, no_votes, vote_count};
+ghost use Rattle.vote_pattern.specs.inner.Numbers.{AreBitsOf};
+ghost use Rattle.vote_pattern.specs.Votes.{AreVotesOver, IsPatternOf, ChangesVote, is_in, no_votes, vote_count};
 
 use crate::bits::count;
 use rcp_base::Memory;
@@ -23,7 +24,7 @@ pub struct Pattern {
 
 impl Model for Pattern {
     ghost use Rattle.vote_pattern.specs.Votes.{Votes};
-    ghost use Rattle.vote_pattern.specs.PatternFields.{IsPattern, votes_in};
+    ghost use Rattle.vote_pattern.specs.inner.PatternFields.{IsPattern, votes_in};
 
     ghost Value = { Votes };
 
@@ -35,8 +36,8 @@ impl Model for Pattern {
 impl Pattern {
     /// The pattern of so many slots and cells without a vote.
     pub fn new(alloc: Global, slots: u32, cells: u32) -> Result<Pattern, Memory>
-        requires slots { slots ≤ 32 }
-        requires cells { cells ≤ 64 }
+        requires slots { slots ≤ MAX_SLOTS }
+        requires cells { cells ≤ MAX_CELLS }
         ensures votes { IfOk result (λ votes. votes ≡ no_votes slots cells) }
         ensures none { IfOk result (λ votes. (slot cell : ℕ) → is_in votes slot cell ≡ false) }
     {
@@ -57,7 +58,7 @@ impl Pattern {
     /// How many slots there are.
     pub fn slots(&self) -> u32
         ensures value { result ≡ self.now.slots }
-        ensures small { result ≤ 32 }
+        ensures most { result ≤ MAX_SLOTS }
     {
         self.slots
     }
@@ -65,7 +66,7 @@ impl Pattern {
     /// How many cells there are.
     pub fn cells(&self) -> u32
         ensures value { result ≡ self.now.cells }
-        ensures small { result ≤ 64 }
+        ensures most { result ≤ MAX_CELLS }
     {
         self.cells
     }
@@ -90,7 +91,7 @@ impl Pattern {
     pub fn set(&mut self, slot: u32, cell: u32)
         requires slot { slot < self.old.slots }
         requires cell { cell < self.old.cells }
-        ensures { Writes self.old self.new slot cell true }
+        ensures { ChangesVote self.old self.new slot cell true }
     {
         let word = self.words[slot as usize];
         self.words[slot as usize] = with_bit(word, cell);
@@ -100,17 +101,17 @@ impl Pattern {
     pub fn clear(&mut self, slot: u32, cell: u32)
         requires slot { slot < self.old.slots }
         requires cell { cell < self.old.cells }
-        ensures { Writes self.old self.new slot cell false }
+        ensures { ChangesVote self.old self.new slot cell false }
     {
         let word = self.words[slot as usize];
         self.words[slot as usize] = without_bit(word, cell);
     }
 }
 
-/// The pattern of parts that are not too many.
-pub(crate) fn pattern_of(alloc: Global, parts: &PlanParts) -> Result<Pattern, Memory>
-    requires slots { length parts.now.slots ≤ 32 }
-    requires cells { length parts.now.cells ≤ 64 }
+// The pattern of parts that are not too many.
+fn pattern_of(alloc: Global, parts: &PlanParts) -> Result<Pattern, Memory>
+    requires slots { length parts.now.slots ≤ MAX_SLOTS }
+    requires cells { length parts.now.cells ≤ MAX_CELLS }
     requires votes { AreVotesOver (length parts.now.cells) parts.now.slots }
     ensures { IfOk result (IsPatternOf parts.now) }
 {

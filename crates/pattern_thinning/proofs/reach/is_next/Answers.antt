@@ -15,4 +15,4 @@ returns c =
     let unvoted : IsUnvoted g (make_node c.args.slot c.args.cell) =
     record { slot_in = c.requires.slot; cell_in = c.requires.cell; unvoted = sym c.has.ensures ∙ c.if-has.false } in
     next_if_fed g c.args.frontier c.args.slot c.args.cell c.is_some.result unvoted
-    (c.is_some.ensures ∙ fed_if_common g c.args.frontier c.args.slot c.args.cell c.word.result c.first_bit-found.result c.requires.frontier c.word.ensures c.first_bit-found.ensures)
+    (c.is_some.ensures ∙ fed_if_common g c.args.frontier c.args.slot c.args.cell c.word.result c.first_bit-found.result c.requires.frontier (λ d l. c.word.ensures d) c.first_bit-found.ensures)

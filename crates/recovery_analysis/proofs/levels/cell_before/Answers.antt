@@ -16,6 +16,6 @@ returns c =
     subst (λ (x : ℕ). IsWordOf g c.args.depth c.slot_before-before.result (get_or c.args.words.now (c.args.depth * x + c.slot_before-before.result) 0)) (sym s)
     (c.requires.words c.args.depth c.slot_before-before.result c.slot_before-before.ensures.within in_words) in
     answers_before g c.args.depth c.args.node c.word-word.result w c.first_bit.result
-    c.word-word.ensures
+    (λ d l. c.word-word.ensures d)
     (subst (λ (x : ℕ). IsWordOf g c.args.depth x w) b is)
     c.first_bit.ensures

@@ -2,7 +2,7 @@
 use Rattle.std.proofs.Common.{sym, ap, ◌++◌, ◌∷◌, [], ◌∙◌, ap₂}
 use Rattle.rcp_base.proofs.TableLaws.{table_none}
 use Rattle.rcp_model.specs.Task.{expression_for}
-use Rattle.task_graph.specs.Masks.{mask_by}
+use Rattle.task_graph.specs.inner.Masks.{mask_by}
 use Rattle.task_graph.proofs.Growth.{grown}
 use Rattle.task_graph.proofs.masks.task_row.Goals as goal
 

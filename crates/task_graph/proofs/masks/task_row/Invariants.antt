@@ -2,7 +2,7 @@
 use Rattle.std.proofs.Common.{◌≡◌}
 use Rattle.rcp_base.specs.Tables.{table}
 use Rattle.rcp_model.specs.Task.{expression_for}
-use Rattle.task_graph.specs.Masks.{mask_by}
+use Rattle.task_graph.specs.inner.Masks.{mask_by}
 use Rattle.task_graph.proofs.masks.task_row.Given as goal
 
 abbrev pub invariant-loop-to : goal.invariant-loop-to

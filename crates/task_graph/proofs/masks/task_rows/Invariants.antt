@@ -1,6 +1,6 @@
 -- The tasks so far have their rows.
 use Rattle.std.proofs.Common.{◌≡◌, ◌++◌, drop}
-use Rattle.task_graph.specs.Masks.{task_rows}
+use Rattle.task_graph.specs.inner.Masks.{task_rows}
 use Rattle.task_graph.proofs.masks.task_rows.Given as goal
 
 abbrev pub invariant-loop-task : goal.invariant-loop-task

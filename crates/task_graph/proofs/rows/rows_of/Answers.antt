@@ -1,6 +1,6 @@
 -- The words are as many as the slots and cells, and those of the slots.
 use Rattle.std.proofs.Common.{◌≡◌, ◌*◌, sym, ℕ, length, ap, ap₂, ◌∙◌, arith}
-use Rattle.task_graph.specs.Masks.{task_rows, plan_words}
+use Rattle.task_graph.specs.inner.Masks.{task_rows, plan_words}
 use Rattle.task_graph.proofs.WordLemmas.{length-plan_words, plan_rows, same_rows}
 use Rattle.task_graph.proofs.rows.rows_of.Goals as goal
 

@@ -1,6 +1,6 @@
 -- The words so far, and those of the slots that are left, are those of all slots.
 use Rattle.std.proofs.Common.{◌≡◌, ◌++◌, drop}
-use Rattle.task_graph.specs.Masks as spec
+use Rattle.task_graph.specs.inner.Masks as spec
 use Rattle.task_graph.proofs.words.plan_words.Given as goal
 
 abbrev pub invariant-loop-slot : goal.invariant-loop-slot

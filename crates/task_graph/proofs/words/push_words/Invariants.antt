@@ -1,7 +1,7 @@
 -- The words of the cells so far stand behind those that were there.
 use Rattle.std.proofs.Common.{◌≡◌, ◌++◌}
 use Rattle.rcp_base.specs.Tables.{table}
-use Rattle.task_graph.specs.Masks as spec
+use Rattle.task_graph.specs.inner.Masks as spec
 use Rattle.task_graph.proofs.words.push_words.Given as goal
 
 abbrev pub invariant-loop-to : goal.invariant-loop-to

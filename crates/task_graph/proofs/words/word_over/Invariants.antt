@@ -1,6 +1,6 @@
 -- The word over the last tasks.
 use Rattle.std.proofs.Common.{◌≡◌, ◌-◌, drop, length}
-use Rattle.task_graph.specs.Masks as spec
+use Rattle.task_graph.specs.inner.Masks as spec
 use Rattle.task_graph.proofs.words.word_over.Given as goal
 
 abbrev pub invariant-loop-i : goal.invariant-loop-i

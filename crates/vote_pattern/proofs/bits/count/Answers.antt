@@ -1,6 +1,6 @@
 use Rattle.std.proofs.Common.{◌≡◌, ℕ, ◌+◌, ◌≤◌, ap, sym, ◌∙◌, arith, get_or, count_ones}
 use Rattle.std.proofs.lemmas.List.Sums.{sum_by_more}
-use Rattle.vote_pattern.specs.Bits.{number_count}
+use Rattle.vote_pattern.specs.inner.Numbers.{number_count}
 use Rattle.vote_pattern.proofs.BitLemmas.{ones_are_numbers, few_numbers}
 use Rattle.vote_pattern.proofs.bits.count.Goals as goal
 

@@ -1,5 +1,5 @@
 use Rattle.std.proofs.Common.{◌≡◌, ◌*◌, ◌≤◌, take, sum_by}
-use Rattle.vote_pattern.specs.Bits.{number_count}
+use Rattle.vote_pattern.specs.inner.Numbers.{number_count}
 use Rattle.vote_pattern.proofs.bits.count.Given as goal
 
 abbrev pub invariant-loop-word : goal.invariant-loop-word

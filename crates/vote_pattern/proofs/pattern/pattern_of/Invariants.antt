@@ -1,6 +1,6 @@
 use Rattle.std.proofs.Common.{◌≡◌, ◌<◌, ℕ, length, get_or}
 use Rattle.rcp_model.specs.Slot.{no_slot}
-use Rattle.vote_pattern.specs.Bits.{AreBitsOf}
+use Rattle.vote_pattern.specs.inner.Numbers.{AreBitsOf}
 use Rattle.vote_pattern.proofs.pattern.pattern_of.Given as goal
 
 abbrev pub invariant-loop-slot : goal.invariant-loop-slot

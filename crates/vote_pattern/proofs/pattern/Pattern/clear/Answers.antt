@@ -1,4 +1,4 @@
-use Rattle.vote_pattern.specs.PatternFields.{votes_in}
+use Rattle.vote_pattern.specs.inner.PatternFields.{votes_in}
 use Rattle.vote_pattern.proofs.VoteLemmas.{read_is_vote, read_keeps_words}
 use Rattle.vote_pattern.proofs.pattern.Pattern.clear.Goals as goal
 

@@ -1,7 +1,7 @@
 use Rattle.std.proofs.Common.{ap, ◌∙◌, sum_by}
-use Rattle.vote_pattern.specs.Bits.{number_count}
+use Rattle.vote_pattern.specs.inner.Numbers.{number_count}
 use Rattle.vote_pattern.specs.Votes.{vote_count}
-use Rattle.vote_pattern.specs.PatternFields.{votes_in}
+use Rattle.vote_pattern.specs.inner.PatternFields.{votes_in}
 use Rattle.vote_pattern.proofs.VoteLemmas.{numbers_are_votes}
 use Rattle.vote_pattern.proofs.pattern.Pattern.count.Goals as goal
 

@@ -1,5 +1,5 @@
 use Rattle.std.proofs.Common.{◌∙◌}
-use Rattle.vote_pattern.specs.PatternFields.{votes_in}
+use Rattle.vote_pattern.specs.inner.PatternFields.{votes_in}
 use Rattle.vote_pattern.proofs.VoteLemmas.{read_is_in}
 use Rattle.vote_pattern.proofs.pattern.Pattern.has.Goals as goal
 

@@ -1,0 +1,3 @@
+-- Words of private functions, which no promise cites. This project's own.
+pub mod Numbers
+pub mod PatternFields
