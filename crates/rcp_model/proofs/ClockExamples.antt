@@ -2,7 +2,8 @@
 -- This project's own.
 use Rattle.std.proofs.Common.{◌≡◌, refl, ℕ, ℤ, Bool, true, false, pos, neg_ℤ, [], ◌∷◌, Some, None}
 use Rattle.rcp_model.specs.declared.plan.Timing.{Timing}
-use Rattle.rcp_model.specs.FrameRows.{FrameRows, no_rows, with_skew, with_rate, with_delay, skew_of, rate_of}
+use Rattle.rcp_model.specs.FrameRows.{FrameRows, no_rows, skew_of, rate_of}
+use Rattle.rcp_model.specs.RowWrites.{with_skew, with_rate, with_delay}
 use Rattle.rcp_model.specs.Messages.{Letter, arrival_of}
 use Rattle.rcp_model.specs.Moments.{begin_tick, send_tick, vote_tick, sync_tick}
 use Rattle.rcp_model.specs.Rounding.{parts_rounded_up}
@@ -86,7 +87,7 @@ past_them_none_is :
 unfolding definitions
 past_them_none_is = (refl, refl, refl, refl, refl, refl)
 
--- the first tick at which a letter of the first frame is still on its way behind that frame's events
+-- the first tick at which a letter of the first frame is still on its way after that frame's events
 abbrev letter_at : ℤ → Letter
 letter_at tick = record { arrival = tick; message = record { slot = 0; values = [] } }
 

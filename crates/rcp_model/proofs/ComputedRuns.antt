@@ -6,9 +6,11 @@ use Rattle.std.specs.Option.{option_or}
 use Rattle.rcp_base.specs.Message.{Content}
 use Rattle.rcp_model.specs.declared.plan.PlanParts.{PlanParts}
 use Rattle.rcp_model.specs.FrameRows.{FrameRows, act_row}
-use Rattle.rcp_model.specs.Messages.{Letter, own_message, letter_to, heard_message, is_up}
+use Rattle.rcp_model.specs.Messages.{Letter, is_voted, own_message, letter_to, heard_message, is_up}
 use Rattle.rcp_model.specs.Slot.{cells_after_slot, actuator_value, no_actuator}
-use Rattle.rcp_model.specs.System.{Ballot, SystemState, ballot_of, synced, overwritten, command_of, still_on_its_way, fresh_letter, heard_in, ballot_in, ended, next_state, initial_state, state_after}
+use Rattle.rcp_model.specs.Ballot.{Ballot, ballot_of}
+use Rattle.rcp_model.specs.System.{SystemState, state_after_sync, state_after_rows, still_on_its_way, fresh_letter, heard_in, ballot_in, end_of_frame, next_state, initial_state, state_after}
+use Rattle.rcp_model.specs.Command.{command_of}
 
 -- what a slot leaves in the cells, and what an actuator is commanded
 pub record Engine : Type 0 where
@@ -27,19 +29,19 @@ module _ (engine : Engine) (plan : PlanParts) where
   abbrev letter_by : SystemState → FrameRows → ℕ → ℕ → Option Letter
   letter_by state rows receiver sender =
       let held = state.replicas sender in
-      letter_to plan state.done rows (own_message plan held.slot (engine.slot held.slot rows.sensors held.cells)) sender receiver
+      letter_to plan state.done rows (own_message plan (is_voted plan) held.slot (engine.slot held.slot rows.sensors held.cells)) sender receiver
 
   abbrev heard_by : SystemState → FrameRows → ℕ → ℕ → Option Content
   heard_by state rows receiver sender =
       let held = state.replicas receiver in
       heard_message plan state.done rows receiver sender
-      (own_message plan held.slot (engine.slot held.slot rows.sensors held.cells))
+      (own_message plan (is_voted plan) held.slot (engine.slot held.slot rows.sensors held.cells))
       (letter_by state rows receiver sender) (state.letters receiver sender)
 
   abbrev ballot_by : SystemState → FrameRows → ℕ → Ballot
   ballot_by state rows replica =
       let held = state.replicas replica in
-      ballot_of plan held.slot (engine.slot held.slot rows.sensors held.cells) (heard_by state rows replica)
+      ballot_of plan (is_voted plan) held.slot (engine.slot held.slot rows.sensors held.cells) (heard_by state rows replica)
 
   abbrev ballots_by : SystemState → FrameRows → ℕ → Option Ballot
   ballots_by state rows replica = if is_up plan rows replica then Some (ballot_by state rows replica) else None
@@ -48,8 +50,8 @@ module _ (engine : Engine) (plan : PlanParts) where
   next_by state rows = record {
     done = suc state.done;
     replicas = λ replica.
-        overwritten plan rows replica
-        (if is_up plan rows replica then synced plan (ballot_by state rows replica) else state.replicas replica);
+        state_after_rows plan rows replica
+        (if is_up plan rows replica then state_after_sync plan (ballot_by state rows replica) else state.replicas replica);
     ballots = ballots_by state rows;
     commands = λ replica actuator.
         option_or (act_row rows replica actuator)
@@ -63,7 +65,7 @@ module _ (engine : Engine) (plan : PlanParts) where
 
 module _ (plan : PlanParts) where
   next_by_own : (state : SystemState) (rows : FrameRows) → next_by (engine_of plan) plan state rows ≡ next_state plan state rows
-  unfolding next_state ended fresh_letter heard_in ballot_in command_of
+  unfolding next_state end_of_frame fresh_letter heard_in ballot_in command_of
   next_by_own state rows = refl
 
   pub state_by_own : (past : List FrameRows) → state_by (engine_of plan) plan past ≡ state_after plan past

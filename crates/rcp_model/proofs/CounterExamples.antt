@@ -2,7 +2,9 @@
 -- This project's own.
 use Rattle.std.proofs.Common.{◌≡◌, refl, true, false, Bool, ℤ, pos, [], ◌∷◌, Some, None}
 use Rattle.rcp_model.specs.declared.plan.PlanParts.{PlanParts}
-use Rattle.rcp_model.specs.FrameRows.{FrameRows, History, no_rows, with_down, with_cell, with_delay, with_lie}
+use Rattle.rcp_model.specs.FrameRows.{FrameRows, no_rows}
+use Rattle.rcp_model.specs.History.{History}
+use Rattle.rcp_model.specs.RowWrites.{with_down, with_cell, with_delay, with_lie}
 use Rattle.rcp_model.specs.Messages.{arrival_of}
 use Rattle.rcp_model.specs.Moments.{begin_tick}
 use Rattle.rcp_model.proofs.ExampleEngines.{counter_engine, counter_engine_is}

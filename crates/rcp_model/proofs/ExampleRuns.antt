@@ -1,20 +1,26 @@
--- What a run shows behind each of its frames, which the examples compare with what it must be.
+-- What a run shows after each of its frames, which the examples compare with what it must be.
 use Rattle.std.proofs.Common.{◌≡◌, ◌↔◌, ◌∙◌, ◌*◌, refl, sym, ap, subst, ℕ, suc, Bool, true, false, ℤ, List, [], ◌∷◌, length, Option, arith}
 use Rattle.std.specs.Prelude.{◌&&◌, nat_lt, ⊤}
 use Rattle.std.specs.Bool.{MatchBool}
 use Rattle.std.proofs.lemmas.Bool.{cases_from_iff}
 use Rattle.rcp_base.specs.Majority.{majority_of, voted_value}
+use Rattle.rcp_base.specs.Median.{median_of, chosen_value}
 use Rattle.rcp_base.specs.Tables.{table}
 use Rattle.rcp_model.specs.declared.plan.PlanParts.{PlanParts}
-use Rattle.rcp_model.specs.FrameRows.{FrameRows, History, entry_at, is_down, slot_row, cell_row, act_row, lie_row, lie_slot_row, is_dropped, skew_of, rate_of, delay_of, no_rows, with_sensor, with_down, with_slot, with_skew, with_rate, with_cell, with_act, with_lie_slot, with_drop, with_delay, with_lie}
+use Rattle.rcp_model.specs.FrameRows.{FrameRows, entry_at, is_down, slot_row, cell_row, act_row, lie_row, lie_slot_row, is_dropped, skew_of, rate_of, delay_of, no_rows}
+use Rattle.rcp_model.specs.History.{History}
+use Rattle.rcp_model.specs.RowWrites.{with_sensor, with_down, with_slot, with_skew, with_rate, with_cell, with_act, with_lie_slot, with_drop, with_delay, with_lie}
 use Rattle.rcp_model.specs.Health.{is_untouched, keeps_time, is_faithful, is_timely, is_healthy, is_working, healthy_count, MeetsGuard}
 use Rattle.rcp_model.specs.Messages.{is_voted, own_message, message_to, is_up, goes_out, arrival_of, letter_to, heard_message}
+use Rattle.rcp_model.specs.Ballot.{is_median}
+use Rattle.rcp_model.specs.Command.{voted_command}
 use Rattle.rcp_model.specs.Moments.{local_ticks, begin_tick, send_tick, vote_tick, sync_tick, is_in_window}
 use Rattle.rcp_model.specs.Rounding.{parts_rounded_down}
-use Rattle.rcp_model.specs.System.{SystemState, taken_slot, voted_cell, voted_cells, ballot_of, synced, overwritten, still_on_its_way, initial_state, state_after, actuator_vote}
+use Rattle.rcp_model.specs.System.{actuator_vote, SystemState, state_after_sync, state_after_rows, still_on_its_way, initial_state, state_after}
+use Rattle.rcp_model.specs.Ballot.{taken_slot, voted_cell, voted_cells, ballot_of}
 use Rattle.rcp_model.proofs.ComputedRuns.{Engine, engine_of, state_by, state_by_own}
 
--- of a replica: whether it was up in the frame, its slot and cells behind it, and whether it is working
+-- of a replica: whether it was up in the frame, its slot and cells after it, and whether it is working
 pub record ReplicaShown : Type 0 where
   pub up : Bool
   pub slot : ℕ
@@ -54,12 +60,12 @@ module _ (plan : PlanParts) (recovery : ℕ) (states : List FrameRows → System
     replicas = table plan.replicas (replica_shown rows past);
   }
 
-  -- behind each of these frames, which follow those of the past
+  -- after each of these frames, which follow those of the past
   abbrev pub frames_shown : List FrameRows → History → List FrameShown
   frames_shown past [] = []
   frames_shown past (rows ∷ later) = frame_shown rows past ∷ frames_shown (rows ∷ past) later
 
--- the guard holds behind the frames that show it, and not behind the others
+-- the guard holds after the frames that show it, and not after the others
 abbrev GuardsAre : PlanParts → ℕ → List FrameRows → History → List FrameShown → Type 0
 GuardsAre plan recovery past [] shown = ⊤
 GuardsAre plan recovery past (rows ∷ later) [] = ⊤
@@ -67,7 +73,7 @@ GuardsAre plan recovery past (rows ∷ later) (first ∷ rest) =
     MatchBool first.guard (MeetsGuard plan recovery (rows ∷ past)) (¬ (MeetsGuard plan recovery (rows ∷ past)))
     × GuardsAre plan recovery (rows ∷ past) later rest
 
--- a history of the system shows this behind its frames
+-- a history of the system shows this after its frames
 pub record Shows (plan : PlanParts) (recovery : ℕ) (history : History) (expected : List FrameShown) : Type 0 where
   pub frames : frames_shown plan recovery (state_after plan) [] history ≡ expected
   pub guards : GuardsAre plan recovery [] history expected
@@ -113,11 +119,11 @@ unfolding is_voted own_message message_to goes_out arrival_of letter_to heard_me
 message_definitions = tt
 
 unfoldable system_definitions : ⊤
-unfolding taken_slot voted_cell voted_cells ballot_of synced overwritten still_on_its_way initial_state actuator_vote
+unfolding taken_slot voted_cell voted_cells ballot_of state_after_sync state_after_rows still_on_its_way initial_state actuator_vote is_median voted_command
 system_definitions = tt
 
 unfoldable pub definitions : ⊤
-unfolding row_definitions row_settings health_definitions moment_definitions message_definitions system_definitions table majority_of voted_value
+unfolding row_definitions row_settings health_definitions moment_definitions message_definitions system_definitions table majority_of voted_value median_of chosen_value
 definitions = tt
 
 -- words for what is shown

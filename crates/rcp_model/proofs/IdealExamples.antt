@@ -10,14 +10,14 @@ use Rattle.rcp_model.proofs.ComputedRuns.{Engine, engine_of}
 use Rattle.rcp_model.proofs.ExampleEngines.{motor_engine, motor_engine_is}
 use Rattle.rcp_model.proofs.ExamplePlans.{motor_plan}
 
--- of a frame: the command for the first actuator, and the slot and cells behind it
+-- of a frame: the command for the first actuator, and the slot and cells after it
 record IdealShown : Type 0 where
   command : ℤ
   slot : ℕ
   cells : List ℤ
 
 module _ (plan : PlanParts) where
-  -- behind each of the frames with these sensor values, which follow those of the past
+  -- after each of the frames with these sensor values, which follow those of the past
   abbrev ideals_shown : List (List ℤ) → List (List ℤ) → List IdealShown
   ideals_shown past [] = []
   ideals_shown past (sensors ∷ later) =
@@ -62,23 +62,23 @@ module _ (plan : PlanParts) where
 motor_ideals : (frames : List (List ℤ)) → ideals_shown motor_plan [] frames ≡ ideals_by motor_plan motor_engine [] frames
 motor_ideals frames = sym (ideals_by_own motor_plan [] frames) ∙ ap (λ engine. ideals_by motor_plan engine [] frames) motor_engine_is
 
-abbrev behind : ℤ → ℕ → ℤ → ℤ → ℤ → IdealShown
-behind command slot position error sum = record { command = command; slot = slot; cells = position ∷ error ∷ sum ∷ [] }
+abbrev after : ℤ → ℕ → ℤ → ℤ → ℤ → IdealShown
+after command slot position error sum = record { command = command; slot = slot; cells = position ∷ error ∷ sum ∷ [] }
 
 -- the position follows the command
 abbrev ten : List ℤ
 ten = pos 10 ∷ []
 
 the_position_follows_the_command : ideals_shown motor_plan [] (ten ∷ ten ∷ ten ∷ ten ∷ [])
-    ≡ behind (pos 10) 1 (pos 0) (pos 10) (pos 10)
-    ∷ behind (pos 10) 0 (pos 5) (pos 10) (pos 10)
-    ∷ behind (pos 15) 1 (pos 5) (pos 5) (pos 15)
-    ∷ behind (pos 15) 0 (pos 12) (pos 5) (pos 15)
+    ≡ after (pos 10) 1 (pos 0) (pos 10) (pos 10)
+    ∷ after (pos 10) 0 (pos 5) (pos 10) (pos 10)
+    ∷ after (pos 15) 1 (pos 5) (pos 5) (pos 15)
+    ∷ after (pos 15) 0 (pos 12) (pos 5) (pos 15)
     ∷ []
 unfolding table
 the_position_follows_the_command = motor_ideals (ten ∷ ten ∷ ten ∷ ten ∷ []) ∙ refl
 
 -- and rests where there is none
-no_command_moves_nothing : ideals_shown motor_plan [] ((pos 0 ∷ []) ∷ []) ≡ behind (pos 0) 1 (pos 0) (pos 0) (pos 0) ∷ []
+no_command_moves_nothing : ideals_shown motor_plan [] ((pos 0 ∷ []) ∷ []) ≡ after (pos 0) 1 (pos 0) (pos 0) (pos 0) ∷ []
 unfolding table
 no_command_moves_nothing = motor_ideals ((pos 0 ∷ []) ∷ []) ∙ refl

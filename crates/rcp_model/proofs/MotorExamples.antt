@@ -1,7 +1,9 @@
 -- Runs of the motor plan to the position 10, each upset in its own way. Its recovery length is 3.
 -- This project's own.
 use Rattle.std.proofs.Common.{◌≡◌, refl, ℕ, true, false, ℤ, pos, neg_ℤ, List, [], ◌∷◌, Some, None, Bool}
-use Rattle.rcp_model.specs.FrameRows.{FrameRows, History, no_rows, with_down, with_slot, with_cell, with_act, with_lie_slot, with_drop, with_delay, with_lie}
+use Rattle.rcp_model.specs.FrameRows.{FrameRows, no_rows}
+use Rattle.rcp_model.specs.History.{History}
+use Rattle.rcp_model.specs.RowWrites.{with_down, with_slot, with_cell, with_act, with_lie_slot, with_drop, with_delay, with_lie}
 use Rattle.rcp_model.specs.Messages.{arrival_of}
 use Rattle.rcp_model.specs.Moments.{vote_tick}
 use Rattle.rcp_model.proofs.ExampleEngines.{motor_engine, motor_engine_is}
@@ -26,7 +28,7 @@ motor slot position error sum working = up slot (position ∷ error ∷ sum ∷ 
 abbrev motor_down : ℕ → ℤ → ℤ → ℤ → Bool → ReplicaShown
 motor_down slot position error sum working = down slot (position ∷ error ∷ sum ∷ []) working
 
--- one that is right behind each frame
+-- one that is right after each frame
 abbrev right_0 : Bool → ReplicaShown
 right_0 = motor 1 (pos 0) (pos 10) (pos 10)
 
@@ -42,7 +44,7 @@ right_3 = motor 0 (pos 12) (pos 5) (pos 15)
 abbrev right_4 : Bool → ReplicaShown
 right_4 = motor 1 (pos 12) (minus 2) (pos 13)
 
--- the sum of replica 2 is overwritten behind the first frame
+-- the sum of replica 2 is overwritten after the first frame
 abbrev corrupt : FrameRows
 corrupt = with_cell quiet 2 sum_cell (minus 77)
 
@@ -76,7 +78,7 @@ a_wrong_slot_spoils_the_sum : ShowsMotor (with_slot quiet 2 0 ∷ quiet ∷ quie
 unfolding definitions
 a_wrong_slot_spoils_the_sum = shows_by _ _ motor_engine _ _ motor_engine_is refl
 
--- a wrong cell that is never voted is still there behind two healthy frames
+-- a wrong cell that is never voted is still there after two healthy frames
 two_healthy_frames_do_not_suffice :
     ShowsMotor (quiet ∷ with_slot (with_cell quiet 2 error_cell (pos 999)) 2 1 ∷ quiet ∷ quiet ∷ quiet ∷ [])
     (frame true (Some (pos 10)) (right_0 true ∷ right_0 true ∷ right_0 true ∷ [])

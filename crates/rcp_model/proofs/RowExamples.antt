@@ -2,7 +2,8 @@
 -- This project's own.
 use Rattle.std.proofs.Common.{◌≡◌, refl, ℕ, ℤ, Bool, true, false, pos, neg_ℤ, List, [], ◌∷◌, Option, Some, None}
 use Rattle.rcp_base.specs.Tables.{table}
-use Rattle.rcp_model.specs.FrameRows.{FrameRows, is_down, slot_row, cell_row, act_row, lie_row, lie_slot_row, is_dropped, skew_of, rate_of, delay_of, no_rows, with_sensor, with_down, with_slot, with_skew, with_rate, with_cell, with_act, with_lie_slot, with_drop, with_delay, with_lie, AreRowsOf}
+use Rattle.rcp_model.specs.FrameRows.{FrameRows, is_down, slot_row, cell_row, act_row, lie_row, lie_slot_row, is_dropped, skew_of, rate_of, delay_of, no_rows, AreRowsOf}
+use Rattle.rcp_model.specs.RowWrites.{with_sensor, with_down, with_slot, with_skew, with_rate, with_cell, with_act, with_lie_slot, with_drop, with_delay, with_lie}
 use Rattle.rcp_model.proofs.ExamplePlans.{position_cell, error_cell, sum_cell, motor_plan}
 use Rattle.rcp_model.proofs.ExampleRuns.{definitions}
 

@@ -1,11 +1,9 @@
 -- The rows of one frame: the sensor values, and what a journal says of replicas, messages and clocks.
 -- After NASA TM-104196; the kinds of rows are this project's own.
-use Rattle.std.specs.Prelude.{ℕ, ◌≡◌, ◌+◌, ◌*◌, ◌<◌, nat_lt, Bool, true, false, ◌≤ℤ◌, ℤ, pos, neg_ℤ, List, length, set, replicate, reverse, take, slice_index_or, Option, Some, None, if◌then◌else◌}
+use Rattle.std.specs.Prelude.{ℕ, ◌≡◌, ◌+◌, ◌*◌, nat_lt, Bool, false, ℤ, pos, List, length, replicate, slice_index_or, Option, None, if◌then◌else◌}
 use Rattle.rcp_model.specs.declared.plan.PlanParts.{PlanParts}
-use Rattle.rcp_model.specs.Slot.{slot_count}
-use Rattle.rcp_model.specs.TimingRules.{delay_limit_of}
 
--- tables whose sizes are the numbers of replicas, cells and actuators, each in one list, row behind row
+-- tables whose sizes are the numbers of replicas, cells and actuators, each in one list, row after row
 pub record FrameRows : Type 0 where
   pub replicas : ℕ
   pub cells : ℕ
@@ -97,45 +95,6 @@ quiet_rows replicas cells actuators delay_min sensors = record {
 unfoldable pub no_rows : PlanParts → List ℤ → FrameRows
 no_rows plan sensors = quiet_rows plan.replicas (length plan.cells) (length plan.actuators) plan.timing.delay_min sensors
 
--- the frame that follows: the sensors stay, and all other rows go
-unfoldable pub cleared : FrameRows → FrameRows
-cleared rows = quiet_rows rows.replicas rows.cells rows.actuators rows.delay_min rows.sensors
-
--- the rows with one entry more
-unfoldable pub with_sensor : FrameRows → ℕ → ℤ → FrameRows
-with_sensor rows sensor value = record rows { sensors = set rows.sensors sensor value }
-
-unfoldable pub with_down : FrameRows → ℕ → FrameRows
-with_down rows replica = record rows { downs = set rows.downs replica true }
-
-unfoldable pub with_slot : FrameRows → ℕ → ℕ → FrameRows
-with_slot rows replica slot = record rows { slots = set rows.slots replica (Some slot) }
-
-unfoldable pub with_skew : FrameRows → ℕ → ℤ → FrameRows
-with_skew rows replica ticks = record rows { skews = set rows.skews replica ticks }
-
-unfoldable pub with_rate : FrameRows → ℕ → ℤ → FrameRows
-with_rate rows replica ppm = record rows { rates = set rows.rates replica ppm }
-
-unfoldable pub with_cell : FrameRows → ℕ → ℕ → ℤ → FrameRows
-with_cell rows replica cell value = record rows { cell_values = set rows.cell_values (replica * rows.cells + cell) (Some value) }
-
-unfoldable pub with_act : FrameRows → ℕ → ℕ → ℤ → FrameRows
-with_act rows replica actuator value = record rows { acts = set rows.acts (replica * rows.actuators + actuator) (Some value) }
-
-unfoldable pub with_lie_slot : FrameRows → ℕ → ℕ → ℕ → FrameRows
-with_lie_slot rows sender receiver slot = record rows { lie_slots = set rows.lie_slots (sender * rows.replicas + receiver) (Some slot) }
-
-unfoldable pub with_drop : FrameRows → ℕ → ℕ → FrameRows
-with_drop rows sender receiver = record rows { drops = set rows.drops (sender * rows.replicas + receiver) true }
-
-unfoldable pub with_delay : FrameRows → ℕ → ℕ → ℤ → FrameRows
-with_delay rows sender receiver ticks = record rows { delays = set rows.delays (sender * rows.replicas + receiver) ticks }
-
-unfoldable pub with_lie : FrameRows → ℕ → ℕ → ℕ → ℤ → FrameRows
-with_lie rows sender receiver cell value =
-    record rows { lies = set rows.lies ((sender * rows.replicas + receiver) * rows.cells + cell) (Some value) }
-
 -- each table has as many entries as its sizes say
 pub record AreTables (rows : FrameRows) : Type 0 where
   pub downs : length rows.downs ≡ rows.replicas
@@ -157,23 +116,3 @@ pub record AreRowsOf (plan : PlanParts) (rows : FrameRows) : Type 0 where
   pub delay_min : rows.delay_min ≡ plan.timing.delay_min
   pub sensors : length rows.sensors ≡ length plan.sensors
   pub tables : AreTables rows
-
--- at most so far from 0
-abbrev pub IsWithin : ℤ → ℤ → Type 0
-IsWithin limit x = (neg_ℤ limit ≤ℤ x) × (x ≤ℤ limit)
-
--- what the rows say is within the limits of a journal, for every number
-pub record AreWithinLimits (plan : PlanParts) (rows : FrameRows) : Type 0 where
-  pub slot : (replica slot : ℕ) → slot_row rows replica ≡ Some slot → slot < slot_count plan
-  pub lie_slot : (sender receiver slot : ℕ) → lie_slot_row rows sender receiver ≡ Some slot → slot < slot_count plan
-  pub skew : (replica : ℕ) → IsWithin plan.timing.skew_limit (skew_of rows replica)
-  pub rate : (replica : ℕ) → IsWithin plan.timing.drift_limit_ppm (rate_of rows replica)
-  pub delay : (sender receiver : ℕ) → (pos 0 ≤ℤ delay_of rows sender receiver) × (delay_of rows sender receiver ≤ℤ delay_limit_of plan.timing)
-
--- the rows of all frames, the oldest first
-abbrev pub History : Type 0
-History = List FrameRows
-
--- those of the first so many frames, the newest first
-abbrev pub past_of : History → ℕ → List FrameRows
-past_of history frames = reverse (take frames history)

@@ -7,9 +7,15 @@ pub mod TimingRules
 pub mod Plan
 pub mod Moments
 pub mod FrameRows
+pub mod RowWrites
+pub mod FrameLimits
+pub mod History
 pub mod Health
 pub mod Messages
+pub mod Ballot
+pub mod Command
 pub mod System
+pub mod AtFrame
 pub mod Dependence
 pub mod Node
 pub mod Walk

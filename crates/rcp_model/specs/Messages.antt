@@ -13,11 +13,11 @@ use Rattle.rcp_model.specs.Moments.{send_tick, arrival_tick, is_in_window}
 unfoldable pub is_voted : PlanParts → ℕ → ℕ → Bool
 is_voted plan slot cell = list_any (λ voted. voted == cell) (slice_index_or plan.slots slot no_slot).votes
 
--- a replica's message: its slot, and the computed values of the cells that the pattern has there
-unfoldable pub own_message : PlanParts → ℕ → List ℤ → Content
-own_message plan slot computed = record {
+-- a replica's message: its slot, and the computed values of the cells that these votes have there
+unfoldable pub own_message : PlanParts → (ℕ → ℕ → Bool) → ℕ → List ℤ → Content
+own_message plan votes slot computed = record {
   slot = slot;
-  values = table (length plan.cells) (λ cell. if is_voted plan slot cell then Some (slice_index_or computed cell (pos 0)) else None);
+  values = table (length plan.cells) (λ cell. if votes slot cell then Some (slice_index_or computed cell (pos 0)) else None);
 }
 
 -- the message as the rows have it for one receiver

@@ -1,23 +1,16 @@
--- One frame of the replicated system, and the system behind a history. Tables are functions of the replica's number.
+-- One frame of the replicated system, and the system after a history. Tables are functions of the replica's number.
 -- The frames so far are listed with the newest first. After NASA TM-102716 and NASA TM-104196.
-use Rattle.std.specs.Prelude.{ℕ, suc, ◌+◌, ◌%◌, ◌*ℤ◌, ◌-ℤ◌, nat_eq, int_le, ℤ, pos, List, [], ◌∷◌, length, slice_index_or, Option, Some, None, option_map, unwrap_or, if◌then◌else◌}
-use Rattle.std.specs.Ordering.{int_eq}
-use Rattle.std.specs.Option.{option_or, option_and_then}
-use Rattle.rcp_base.specs.Majority.{majority_of, voted_value}
-use Rattle.rcp_base.specs.Message.{Content, value_in}
+use Rattle.std.specs.Prelude.{ℕ, suc, ◌+◌, ◌%◌, ◌*ℤ◌, ◌-ℤ◌, int_le, ℤ, pos, List, [], ◌∷◌, length, slice_index_or, Option, Some, None, unwrap_or, if◌then◌else◌}
+use Rattle.rcp_base.specs.Message.{Content}
 use Rattle.rcp_base.specs.Tables.{table}
 use Rattle.rcp_model.specs.declared.plan.PlanParts.{PlanParts}
-use Rattle.rcp_model.specs.Slot.{slot_count, cells_after_slot, actuator_value, no_actuator}
+use Rattle.rcp_model.specs.Ballot.{Ballot, ballot_of}
+use Rattle.rcp_model.specs.Command.{command_of, voted_command}
+use Rattle.rcp_model.specs.FrameRows.{FrameRows, slot_row, cell_row}
+use Rattle.rcp_model.specs.Messages.{Letter, is_voted, own_message, is_up, letter_to, heard_message}
+use Rattle.rcp_model.specs.Slot.{slot_count, cells_after_slot}
 use Rattle.rcp_model.specs.TimingRules.{frame_length}
 use Rattle.rcp_model.specs.Uniprocessor.{ProcessorState, initial_values}
-use Rattle.rcp_model.specs.FrameRows.{FrameRows, slot_row, cell_row, act_row}
-use Rattle.rcp_model.specs.Messages.{Letter, is_voted, own_message, is_up, letter_to, heard_message}
-
--- what a replica heard of each sender, the slot that it took, and its cells behind the vote
-pub record Ballot : Type 0 where
-  pub heard : ℕ → Option Content
-  pub taken : ℕ
-  pub cells : List ℤ
 
 -- how many frames are done, what each replica holds, what the last frame's votes and commands were, and what is on its way.
 -- Commands are by replica and actuator, letters by receiver and sender
@@ -32,50 +25,16 @@ pub record SystemState : Type 0 where
 abbrev pub computed_cells : PlanParts → FrameRows → ProcessorState → List ℤ
 computed_cells plan rows held = cells_after_slot plan held.slot rows.sensors held.cells
 
--- the slots that the heard messages name, by sender
-abbrev pub slots_heard : PlanParts → (ℕ → Option Content) → List (Option ℕ)
-slots_heard plan heard = table plan.replicas (λ sender. option_map (λ message. message.slot) (heard sender))
-
--- the values that they name for a cell
-abbrev pub values_heard : PlanParts → (ℕ → Option Content) → ℕ → List (Option ℤ)
-values_heard plan heard cell = table plan.replicas (λ sender. option_and_then (λ message. value_in message cell) (heard sender))
-
--- the slot that is taken: by vote, else one's own
-unfoldable pub taken_slot : PlanParts → ℕ → (ℕ → Option Content) → ℕ
-taken_slot plan own heard = voted_value nat_eq (slots_heard plan heard) own
-
--- a cell behind the vote: where the pattern has it at the slot taken, by vote, else as computed
-unfoldable pub voted_cell : PlanParts → ℕ → (ℕ → Option Content) → ℕ → ℤ → ℤ
-voted_cell plan taken heard cell computed =
-    if is_voted plan taken cell then voted_value int_eq (values_heard plan heard cell) computed else computed
-
--- the cells behind the vote
-unfoldable pub voted_cells : PlanParts → ℕ → (ℕ → Option Content) → List ℤ → List ℤ
-voted_cells plan taken heard computed =
-    table (length plan.cells) (λ cell. voted_cell plan taken heard cell (slice_index_or computed cell (pos 0)))
-
--- the vote of a replica that is in this slot, computed these cells and heard these messages
-unfoldable pub ballot_of : PlanParts → ℕ → List ℤ → (ℕ → Option Content) → Ballot
-ballot_of plan slot computed heard =
-    let taken = taken_slot plan slot heard in
-    record { heard = heard; taken = taken; cells = voted_cells plan taken heard computed }
-
--- what a replica holds behind its sync: the voted cells, and the slot that follows the one taken
-unfoldable pub synced : PlanParts → Ballot → ProcessorState
-synced plan ballot = record { slot = (ballot.taken + 1) % slot_count plan; cells = ballot.cells }
+-- what a replica holds after its sync: the voted cells, and the slot that follows the one taken
+unfoldable pub state_after_sync : PlanParts → Ballot → ProcessorState
+state_after_sync plan ballot = record { slot = (ballot.taken + 1) % slot_count plan; cells = ballot.cells }
 
 -- what it holds when rows have overwritten its slot and cells
-unfoldable pub overwritten : PlanParts → FrameRows → ℕ → ProcessorState → ProcessorState
-overwritten plan rows replica held = record {
+unfoldable pub state_after_rows : PlanParts → FrameRows → ℕ → ProcessorState → ProcessorState
+state_after_rows plan rows replica held = record {
   slot = unwrap_or (slot_row rows replica) held.slot;
   cells = table (length plan.cells) (λ cell. unwrap_or (cell_row rows replica cell) (slice_index_or held.cells cell (pos 0)));
 }
-
--- a replica's command: by a row, else what it evaluates over its cells behind the vote, else none where it is down
-unfoldable pub command_of : PlanParts → FrameRows → ℕ → ℕ → Option Ballot → Option ℤ
-command_of plan rows replica actuator ballot =
-    option_or (act_row rows replica actuator)
-    (option_map (λ voted. actuator_value (slice_index_or plan.actuators actuator no_actuator) rows.sensors voted.cells) ballot)
 
 -- a letter that is still on its way when the events of a frame end
 unfoldable pub still_on_its_way : PlanParts → ℕ → Option Letter → Option Letter
@@ -87,36 +46,36 @@ still_on_its_way plan frame (Some letter) =
 unfoldable pub fresh_letter : PlanParts → SystemState → FrameRows → ℕ → ℕ → Option Letter
 fresh_letter plan state rows receiver sender =
     let held = state.replicas sender in
-    letter_to plan state.done rows (own_message plan held.slot (computed_cells plan rows held)) sender receiver
+    letter_to plan state.done rows (own_message plan (is_voted plan) held.slot (computed_cells plan rows held)) sender receiver
 
 -- what the receiver hears of the sender
 unfoldable pub heard_in : PlanParts → SystemState → FrameRows → ℕ → ℕ → Option Content
 heard_in plan state rows receiver sender =
     let held = state.replicas receiver in
-    heard_message plan state.done rows receiver sender (own_message plan held.slot (computed_cells plan rows held))
+    heard_message plan state.done rows receiver sender (own_message plan (is_voted plan) held.slot (computed_cells plan rows held))
     (fresh_letter plan state rows receiver sender) (state.letters receiver sender)
 
 -- the vote of a replica that is up
 unfoldable pub ballot_in : PlanParts → SystemState → FrameRows → ℕ → Ballot
 ballot_in plan state rows replica =
     let held = state.replicas replica in
-    ballot_of plan held.slot (computed_cells plan rows held) (heard_in plan state rows replica)
+    ballot_of plan (is_voted plan) held.slot (computed_cells plan rows held) (heard_in plan state rows replica)
 
 -- the end of a frame: rows overwrite, commands are given, and one frame more is done
-unfoldable pub ended : PlanParts → ℕ → FrameRows → (ℕ → ProcessorState) → (ℕ → Option Ballot) → (ℕ → ℕ → Option Letter) → SystemState
-ended plan done rows replicas ballots letters = record {
+unfoldable pub end_of_frame : PlanParts → ℕ → FrameRows → (ℕ → ProcessorState) → (ℕ → Option Ballot) → (ℕ → ℕ → Option Letter) → SystemState
+end_of_frame plan done rows replicas ballots letters = record {
   done = suc done;
-  replicas = λ replica. overwritten plan rows replica (replicas replica);
+  replicas = λ replica. state_after_rows plan rows replica (replicas replica);
   ballots = ballots;
   commands = λ replica actuator. command_of plan rows replica actuator (ballots replica);
   letters = letters;
 }
 
--- the system behind one frame more: a replica that is down hears, takes and votes nothing and keeps what it holds
+-- the system after one frame more: a replica that is down hears, takes and votes nothing and keeps what it holds
 unfoldable pub next_state : PlanParts → SystemState → FrameRows → SystemState
 next_state plan state rows =
-    ended plan state.done rows
-    (λ replica. if is_up plan rows replica then synced plan (ballot_in plan state rows replica) else state.replicas replica)
+    end_of_frame plan state.done rows
+    (λ replica. if is_up plan rows replica then state_after_sync plan (ballot_in plan state rows replica) else state.replicas replica)
     (λ replica. if is_up plan rows replica then Some (ballot_in plan state rows replica) else None)
     (λ receiver sender. still_on_its_way plan state.done (fresh_letter plan state rows receiver sender))
 
@@ -130,11 +89,11 @@ initial_state plan = record {
   letters = λ receiver sender. None;
 }
 
--- the system behind these frames
+-- the system after these frames
 abbrev pub state_after : PlanParts → List FrameRows → SystemState
 state_after plan [] = initial_state plan
 state_after plan (rows ∷ past) = next_state plan (state_after plan past) rows
 
--- the vote for an actuator in the last frame: the command that more than half of all replicas give, if there is one
+-- the vote for an actuator in the last frame
 unfoldable pub actuator_vote : PlanParts → SystemState → ℕ → Option ℤ
-actuator_vote plan state actuator = majority_of int_eq (table plan.replicas (λ replica. state.commands replica actuator))
+actuator_vote plan state actuator = voted_command plan state.commands actuator
