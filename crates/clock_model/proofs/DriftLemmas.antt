@@ -2,7 +2,7 @@
 use Rattle.std.proofs.Common.{◌≡◌, ◌↔◌, IsTrue, int_le, ◌+◌, ◌*◌, ◌/◌, ◌≤◌, ℕ, suc, ℤ, pos, negsuc, ◌+ℤ◌, ◌*ℤ◌, ◌≤ℤ◌, int_div, FitsSigned, to_z, of_z, w64, refl, ap, arith, mul-le-mul}
 use Rattle.std.proofs.lemmas.Int.{ints, to_z_pos, to_z-of_z}
 use Rattle.std.specs.Int.{int_div_euclid}
-use Rattle.rcp_model.specs.FrameRows.{IsWithin}
+use Rattle.rcp_model.specs.FrameLimits.{IsWithin}
 use Rattle.rcp_model.specs.Rounding.{parts_rounded_down, parts_rounded_up}
 use Rattle.rcp_model.specs.TimingRules.{IsTimingNumber}
 use Rattle.rcp_model.proofs.RoundingLaws.{parts_rounded_up-pos}

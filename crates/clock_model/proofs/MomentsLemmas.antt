@@ -2,7 +2,7 @@
 use Rattle.std.proofs.Common.{◌≡◌, ◌*◌, ◌≤◌, ℕ, ℤ, pos, negsuc, neg_ℤ, ◌+ℤ◌, ◌*ℤ◌, ◌≤ℤ◌, FitsSigned, to_z, of_z, w64, ap, arith, mul-le-mul}
 use Rattle.std.proofs.lemmas.Int.{ints, to_z-of_z}
 use Rattle.rcp_model.specs.declared.plan.Timing.{Timing}
-use Rattle.rcp_model.specs.FrameRows.{IsWithin}
+use Rattle.rcp_model.specs.FrameLimits.{IsWithin}
 use Rattle.rcp_model.specs.Moments.{begin_tick, local_ticks, send_tick}
 use Rattle.rcp_model.specs.TimingRules.{KeepsRules, frame_length}
 use Rattle.clock_model.specs.Moments.{IsClock, IsSendTick, MayBegin}

@@ -1,7 +1,7 @@
 -- What a journal may say of a replica's clock in a frame, and the ranges of sends and delays. This project's own.
 use Rattle.std.specs.Prelude.{ℕ, ◌≤◌, ℤ, pos, neg_ℤ, ◌≤ℤ◌}
 use Rattle.rcp_model.specs.declared.plan.Timing.{Timing}
-use Rattle.rcp_model.specs.FrameRows.{IsWithin}
+use Rattle.rcp_model.specs.FrameLimits.{IsWithin}
 use Rattle.rcp_model.specs.TimingRules.{AreInRange}
 
 -- a frame of a journal, and a skew within its limit

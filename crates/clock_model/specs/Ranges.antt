@@ -1,7 +1,7 @@
 -- The ranges in which 64 bits are enough, and the two halves of the fifth rule. This project's own.
 use Rattle.std.specs.Prelude.{ℤ, pos, ◌≤ℤ◌}
 use Rattle.rcp_model.specs.declared.plan.Timing.{Timing}
-use Rattle.rcp_model.specs.FrameRows.{IsWithin}
+use Rattle.rcp_model.specs.FrameLimits.{IsWithin}
 use Rattle.rcp_model.specs.TimingRules.{delay_limit_of}
 
 -- the ticks of up to three phases together

@@ -9,7 +9,8 @@ use Rattle.rcp_base.proofs.TableLaws.{table_same}
 use Rattle.rcp_model.specs.declared.plan.Variable.{Variable}
 use Rattle.rcp_model.specs.declared.plan.PlanParts.{PlanParts}
 use Rattle.rcp_model.specs.Uniprocessor.{initial_values}
-use Rattle.rcp_model.specs.FrameRows.{no_rows, cleared}
+use Rattle.rcp_model.specs.FrameRows.{no_rows}
+use Rattle.rcp_model.specs.RowWrites.{cleared}
 use Rattle.fault_journal.specs.declared.row.Row.{Row}
 use Rattle.fault_journal.specs.History.{said, sets_sensor_by, frame_of}
 use Rattle.fault_journal.proofs.GridLemmas.{table_constant}

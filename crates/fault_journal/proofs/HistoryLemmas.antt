@@ -4,7 +4,8 @@ use Rattle.rcp_base.specs.Tables.{table}
 use Rattle.rcp_base.proofs.TableLaws.{length-table, get_or-table}
 use Rattle.rcp_model.specs.declared.plan.PlanParts.{PlanParts}
 use Rattle.rcp_model.specs.Plan.{IsPlan}
-use Rattle.rcp_model.specs.FrameRows.{AreRowsOf, AreWithinLimits}
+use Rattle.rcp_model.specs.FrameRows.{AreRowsOf}
+use Rattle.rcp_model.specs.FrameLimits.{AreWithinLimits}
 use Rattle.layer_stack.specs.Inputs.{IsHistoryOf}
 use Rattle.fault_journal.specs.Journal.{JournalRows, journal_rows}
 use Rattle.fault_journal.specs.History.{frame_of, history_of, journal_verdict}

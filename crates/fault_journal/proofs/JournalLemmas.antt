@@ -7,7 +7,9 @@ use Rattle.std.proofs.lemmas.Option.{slice_get-get_or}
 use Rattle.rcp_base.proofs.TableLaws.{length-table, get_or-table}
 use Rattle.rcp_model.specs.declared.plan.PlanParts.{PlanParts}
 use Rattle.rcp_model.specs.Uniprocessor.{initial_values}
-use Rattle.rcp_model.specs.FrameRows.{FrameRows, History, AreRowsOf, cleared, no_rows, past_of}
+use Rattle.rcp_model.specs.FrameRows.{FrameRows, AreRowsOf, no_rows}
+use Rattle.rcp_model.specs.History.{History, past_of}
+use Rattle.rcp_model.specs.RowWrites.{cleared}
 use Rattle.layer_stack.specs.Inputs.{CanFill, sensors_after}
 use Rattle.fault_journal.specs.declared.row.Row.{Row}
 use Rattle.fault_journal.specs.declared.journal.Journal.{Journal}

@@ -7,7 +7,8 @@ use Rattle.rcp_model.specs.declared.plan.PlanParts.{PlanParts}
 use Rattle.rcp_model.specs.Plan.{IsPlan}
 use Rattle.rcp_model.specs.Slot.{slot_count}
 use Rattle.rcp_model.specs.TimingRules.{delay_limit_of}
-use Rattle.rcp_model.specs.FrameRows.{AreRowsOf, AreWithinLimits, IsWithin, slot_row, lie_slot_row, skew_of, rate_of, delay_of}
+use Rattle.rcp_model.specs.FrameRows.{AreRowsOf, slot_row, lie_slot_row, skew_of, rate_of, delay_of}
+use Rattle.rcp_model.specs.FrameLimits.{AreWithinLimits, IsWithin}
 use Rattle.fault_journal.specs.declared.row.Kind.{Kind}
 use Rattle.fault_journal.specs.declared.row.Kind.TheVariants as kind
 use Rattle.fault_journal.specs.declared.row.Row.{Row}

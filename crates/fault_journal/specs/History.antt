@@ -3,7 +3,8 @@ use Rattle.std.specs.Prelude.{ℕ, ◌*◌, ◌/◌, ◌%◌, ◌==◌, nat_le, 
 use Rattle.rcp_base.specs.Tables.{table}
 use Rattle.rcp_model.specs.declared.plan.PlanParts.{PlanParts}
 use Rattle.rcp_model.specs.Uniprocessor.{initial_values}
-use Rattle.rcp_model.specs.FrameRows.{FrameRows, History}
+use Rattle.rcp_model.specs.FrameRows.{FrameRows}
+use Rattle.rcp_model.specs.History.{History}
 use Rattle.fault_journal.specs.declared.row.Kind.{Kind}
 use Rattle.fault_journal.specs.declared.row.Kind.TheVariants as kind
 use Rattle.fault_journal.specs.declared.row.Row.{Row}

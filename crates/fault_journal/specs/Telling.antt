@@ -3,7 +3,8 @@ use Rattle.std.specs.Prelude.{◌≡◌, ℕ, suc, ◌<◌, ◌≤◌, List, rev
 use Rattle.rcp_model.specs.declared.plan.PlanParts.{PlanParts}
 use Rattle.rcp_model.specs.Plan.{IsPlan}
 use Rattle.rcp_model.specs.Uniprocessor.{initial_values}
-use Rattle.rcp_model.specs.FrameRows.{FrameRows, History, AreRowsOf}
+use Rattle.rcp_model.specs.FrameRows.{FrameRows, AreRowsOf}
+use Rattle.rcp_model.specs.History.{History}
 use Rattle.layer_stack.specs.Inputs.{IsHistoryOf}
 use Rattle.fault_journal.specs.declared.row.Row.{Row}
 use Rattle.fault_journal.specs.declared.journal.Journal.{Journal}

@@ -2,7 +2,8 @@
 //! This project's own.
 ghost use Rattle.std.specs.Prelude.{◌≡◌, ◌≢◌, ◌<◌, ◌≤◌, Ok, All, IfOk, IfErr, length, take, slice_index_or};
 ghost use Rattle.rcp_model.specs.declared.plan.PlanParts.{PlanParts};
-ghost use Rattle.rcp_model.specs.FrameRows.{History, AreRowsOf, no_rows};
+ghost use Rattle.rcp_model.specs.History.{History};
+ghost use Rattle.rcp_model.specs.FrameRows.{AreRowsOf, no_rows};
 ghost use Rattle.fault_journal.specs.declared.row.Row.{Row};
 ghost use Rattle.fault_journal.specs.Answers.{IsFault};
 ghost use Rattle.fault_journal.specs.Filling.{IsRowOf, CanTake, put_row, put_all};

@@ -3,7 +3,8 @@ use Rattle.std.proofs.Common.{◌≡◌, ℕ, ◌+◌, ◌*◌, ◌<◌, ◌≤�
 use Rattle.std.proofs.lemmas.Bool.{lt-ltb}
 use Rattle.std.proofs.lemmas.List.{length-replicate, get_or_read}
 use Rattle.std.proofs.lemmas.Nat.{mul-add-lt}
-use Rattle.rcp_model.specs.FrameRows.{FrameRows, AreTables, cleared, lie_row, entry_at}
+use Rattle.rcp_model.specs.FrameRows.{FrameRows, AreTables, lie_row, entry_at}
+use Rattle.rcp_model.specs.RowWrites.{cleared}
 use Rattle.layer_stack.specs.declared.frame_in.FrameIn.TheInside.{Inside}
 use Rattle.layer_stack.specs.FrameFields.{IsFrame, rows_in}
 

@@ -1,6 +1,7 @@
 -- What the fields of a frame's rows say together. This project's own.
 use Rattle.std.specs.Prelude.{◌≡◌, ◌≤◌, false}
-use Rattle.rcp_model.specs.FrameRows.{FrameRows, AreTables, cleared}
+use Rattle.rcp_model.specs.FrameRows.{FrameRows, AreTables}
+use Rattle.rcp_model.specs.RowWrites.{cleared}
 use Rattle.layer_stack.specs.declared.frame_in.FrameIn.TheInside.{Inside}
 
 -- the rows that the fields hold

@@ -2,7 +2,9 @@
 use Rattle.std.specs.Prelude.{◌≡◌, ℕ, ◌<◌, ◌≤◌, ℤ, List, [], ◌∷◌, length, All}
 use Rattle.rcp_model.specs.declared.plan.PlanParts.{PlanParts}
 use Rattle.rcp_model.specs.Uniprocessor.{initial_values}
-use Rattle.rcp_model.specs.FrameRows.{FrameRows, History, AreRowsOf, AreWithinLimits, past_of}
+use Rattle.rcp_model.specs.FrameRows.{FrameRows, AreRowsOf}
+use Rattle.rcp_model.specs.History.{History, past_of}
+use Rattle.rcp_model.specs.FrameLimits.{AreWithinLimits}
 
 -- the sensor values behind these frames, the newest first
 abbrev pub sensors_after : PlanParts → List FrameRows → List ℤ

@@ -2,7 +2,8 @@
 //! This project's own.
 ghost use Rattle.std.specs.Prelude.{◌≡◌, ◌≤◌, length, IfOk, replicate};
 ghost use Rattle.rcp_model.specs.declared.plan.PlanParts.{PlanParts};
-ghost use Rattle.rcp_model.specs.FrameRows.{AreRowsOf, cleared, no_rows, quiet_rows};
+ghost use Rattle.rcp_model.specs.FrameRows.{AreRowsOf, no_rows, quiet_rows};
+ghost use Rattle.rcp_model.specs.RowWrites.{cleared};
 ghost use Rattle.rcp_model.specs.Uniprocessor.{initial_values};
 
 mod reading;

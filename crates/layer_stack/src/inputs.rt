@@ -8,7 +8,7 @@ use crate::frame_in::FrameIn;
 pub trait Inputs {
     ghost use Rattle.std.specs.Prelude.{◌≡◌, ℕ, suc, length, slice_get, Some};
     ghost use Rattle.rcp_model.specs.declared.plan.PlanParts.{PlanParts};
-    ghost use Rattle.rcp_model.specs.FrameRows.{History};
+    ghost use Rattle.rcp_model.specs.History.{History};
     ghost use Rattle.layer_stack.specs.Inputs.{CanFill};
 
     ghost tells: { Self → PlanParts → History → Type 0 };

@@ -2,7 +2,8 @@
 //! This project's own.
 ghost use Rattle.std.specs.Prelude.{◌≡◌, ◌<◌, length};
 ghost use Rattle.rcp_model.specs.declared.plan.PlanParts.{PlanParts};
-ghost use Rattle.rcp_model.specs.FrameRows.{AreRowsOf, with_sensor, with_down, with_slot, with_cell, with_act, with_lie, with_lie_slot, with_drop, with_skew, with_rate, with_delay};
+ghost use Rattle.rcp_model.specs.FrameRows.{AreRowsOf};
+ghost use Rattle.rcp_model.specs.RowWrites.{with_sensor, with_down, with_slot, with_cell, with_act, with_lie, with_lie_slot, with_drop, with_skew, with_rate, with_delay};
 
 use super::FrameIn;
 

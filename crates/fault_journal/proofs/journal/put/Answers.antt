@@ -1,6 +1,6 @@
 use Rattle.std.proofs.Common.{◌≡◌, ℕ, ◌∙◌, ap, ap₂, sym, nat_abs, SFits, w64, to_z-of_z, rules}
 use Rattle.rcp_model.specs.Slot.{slot_count}
-use Rattle.rcp_model.specs.FrameRows.{with_slot, with_lie_slot, with_rate, with_delay}
+use Rattle.rcp_model.specs.RowWrites.{with_slot, with_lie_slot, with_rate, with_delay}
 use Rattle.fault_journal.specs.declared.row.Kind.TheVariants as kind
 use Rattle.fault_journal.proofs.PutLemmas.{put_row-of_kind, permitted-of_kind, natural-below}
 use Rattle.fault_journal.proofs.journal.put.Goals as goal

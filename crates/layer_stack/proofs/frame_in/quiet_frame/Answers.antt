@@ -1,5 +1,5 @@
 use Rattle.std.proofs.Common.{refl, ◌≡◌, w64, to_z, of_z, to_z-of_z}
-use Rattle.rcp_model.specs.FrameRows.{cleared}
+use Rattle.rcp_model.specs.RowWrites.{cleared}
 use Rattle.layer_stack.proofs.FrameLemmas.{quiet_is_frame}
 use Rattle.layer_stack.proofs.frame_in.quiet_frame.Goals as goal
 

@@ -1,5 +1,5 @@
 use Rattle.std.proofs.Common.{◌≡◌, ◌∙◌, ap, refl, rules, w64, to_z, of_z}
-use Rattle.rcp_model.specs.FrameRows.{cleared}
+use Rattle.rcp_model.specs.RowWrites.{cleared}
 use Rattle.layer_stack.proofs.FrameLemmas.{quiet_is_frame}
 use Rattle.layer_stack.proofs.frame_in.FrameIn.next_frame.Goals as goal
 

@@ -1,5 +1,6 @@
 use Rattle.std.proofs.Common.{ap, set, w64, to_z, of_z}
-use Rattle.rcp_model.specs.FrameRows.{FrameRows, cleared}
+use Rattle.rcp_model.specs.FrameRows.{FrameRows}
+use Rattle.rcp_model.specs.RowWrites.{cleared}
 use Rattle.layer_stack.specs.FrameFields.{rows_in}
 use Rattle.layer_stack.proofs.FrameLemmas.{tables_beside}
 use Rattle.layer_stack.proofs.frame_in.FrameIn.set_sensor.Goals as goal
