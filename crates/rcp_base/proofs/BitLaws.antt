@@ -1,12 +1,13 @@
 -- Words as sets of small numbers: a test of one number, one number more or less, the first, and those of two words.
-use Rattle.std.proofs.Common.{max, min, ◌≡◌, ℕ, ◌*◌, ◌%◌, ◌^◌, ◌<◌, ◌≤◌, ◌-◌, zero, suc, true, false, not, eqb, ltb, refl, sym, ◌∙◌, ap, inl, inr, arith, zero-mul, w64}
+use Rattle.std.proofs.Common.{max, min, ◌≡◌, ℕ, ◌*◌, ◌%◌, ◌^◌, ◌<◌, ◌≤◌, ◌-◌, zero, suc, Bool, true, false, not, eqb, ltb, refl, sym, ◌∙◌, ap, inl, inr, arith, zero-mul, w64}
 use Rattle.std.specs.Prelude.{bit_and, ◌||◌, ◌&&◌}
 use Rattle.std.specs.Int.{bit_at, bit_not, trailing_zeros}
 use Rattle.std.specs.Int.Bits.{bit_or}
 use Rattle.std.proofs.lemmas.Bool.{cases_lt, lt-ltb, le-ltb, eq-eqb, ne_eqb}
+use Rattle.std.proofs.Math.Bool.{and_comm, and-false}
 use Rattle.std.proofs.lemmas.Nat.{one_shl, pow_pos}
-use Rattle.std.proofs.lemmas.Nat.Bits.{and_pow, bit_at_and, bit_at_or, bit_at-lt, bit_at-zero, bit_at_above, bit_at_set_same, bit_at_set_other, bit_at_clear_same, bit_at_clear_other, bit_at_mask_inside, bit_at_mask_above, bit_at-trailing_zeros}
-use Rattle.rcp_base.specs.Bits.{has_bit, WritesBit, AreBelow}
+use Rattle.std.proofs.lemmas.Nat.Bits.{and_pow, bit_at_and, bit_at_or, bit_at_not, bit_at-lt, bit_at-zero, bit_at_above, bit_at_set_same, bit_at_set_other, bit_at_clear_same, bit_at_clear_other, bit_at_mask_inside, bit_at_mask_above, bit_at-trailing_zeros}
+use Rattle.rcp_base.specs.Bits.{has_bit, WritesBit, AreBelow, AreOthers}
 use Rattle.rcp_base.specs.Search.{IsFirst}
 
 bit_test : (b p : ℕ) → b < 2 → 0 < p → not (eqb (b * p) 0) ≡ eqb b 1
@@ -85,6 +86,14 @@ min_bit (suc zero) (suc (suc y)) p q = absurd (omega arith)
 pub has_bit_and : (a b i : ℕ) → has_bit (bit_and a b) i ≡ (has_bit a i && has_bit b i)
 has_bit_and a b i = ap (λ (x : ℕ). eqb x 1) (bit_at_and a b i) ∙ min_bit (bit_at a i) (bit_at b i) (bit_at-lt a i) (bit_at-lt b i)
 
+not_bit : (x y : ℕ) → x < 2 → y ≡ 1 - x → eqb y 1 ≡ not (eqb x 1)
+not_bit zero y p e = eq-eqb y 1 e
+not_bit (suc zero) y p e = let ne : y ≡ 1 → ⊥ = λ q. omega arith in ne_eqb y 1 ne
+not_bit (suc (suc x)) y p e = absurd (omega arith)
+
+has_bit_not : (w i : ℕ) → w < 2 ^ 64 → i < 64 → has_bit (bit_not w64 w) i ≡ not (has_bit w i)
+has_bit_not w i fits h = not_bit (bit_at w i) (bit_at (bit_not w64 w) i) (bit_at-lt w i) (bit_at_not w64 w i fits h)
+
 max_bit : (x y : ℕ) → x < 2 → y < 2 → eqb (max x y) 1 ≡ (eqb x 1 || eqb y 1)
 max_bit zero zero p q = refl
 max_bit zero (suc zero) p q = refl
@@ -96,3 +105,18 @@ max_bit (suc zero) (suc (suc y)) p q = absurd (omega arith)
 
 pub has_bit_or : (a b i : ℕ) → has_bit (bit_or a b) i ≡ (has_bit a i || has_bit b i)
 has_bit_or a b i = ap (λ (x : ℕ). eqb x 1) (bit_at_or a b i) ∙ max_bit (bit_at a i) (bit_at b i) (bit_at-lt a i) (bit_at-lt b i)
+
+-- the numbers below that are not in a word
+pub others_below : (w mask n : ℕ) → w < 2 ^ 64 → n ≤ 64 → AreBelow mask n → AreOthers w (bit_and (bit_not w64 w) mask) n
+others_below w mask n fits few below i =
+    let both : has_bit (bit_and (bit_not w64 w) mask) i ≡ (has_bit (bit_not w64 w) i && ltb i n) =
+    has_bit_and (bit_not w64 w) mask i ∙ ap (λ (b : Bool). has_bit (bit_not w64 w) i && b) (below i) in
+    elim (cases_lt i n) [
+      | inl inside ↦
+          both ∙ and_comm (has_bit (bit_not w64 w) i) (ltb i n)
+          ∙ ap (λ (b : Bool). ltb i n && b) (has_bit_not w i fits (omega arith))
+      | inr past ↦
+          let none : ltb i n ≡ false = le-ltb i n past in
+          both ∙ ap (λ (b : Bool). has_bit (bit_not w64 w) i && b) none ∙ and-false (has_bit (bit_not w64 w) i)
+          ∙ sym (ap (λ (b : Bool). b && not (has_bit w i)) none)
+    ]

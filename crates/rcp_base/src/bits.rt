@@ -39,6 +39,14 @@ pub fn bits_below(number: u32) -> u64
     }
 }
 
+/// The word of the numbers below that are not in the word.
+pub fn other_bits(word: u64, number: u32) -> u64
+    requires { number ≤ 64 }
+    ensures { spec.AreOthers word result number }
+{
+    !word & bits_below(number)
+}
+
 /// The least number in the word.
 pub fn first_bit(word: u64) -> Option<u32>
     ensures { spec.IsFirstBit word result }

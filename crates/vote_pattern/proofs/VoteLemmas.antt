@@ -1,6 +1,6 @@
 -- Votes as words: what a slot votes, one vote more or less, how many there are, and the votes of a plan.
-use Rattle.std.proofs.Common.{◌≡◌, ◌≢◌, ◌==◌, ℕ, zero, suc, ◌+◌, cond, ◌<◌, ◌≤◌, Bool, true, false, ◌&&◌, ltb, List, length, get_or, set, take, replicate, inl, inr, refl, sym, ◌∙◌, ap, subst, arith, add-one}
-use Rattle.std.proofs.lemmas.Bool.{cases_lt, cases_eq, lt-ltb, ne_eqb}
+use Rattle.std.proofs.Common.{◌≡◌, ◌≢◌, ◌==◌, ℕ, zero, suc, ◌+◌, cond, ◌<◌, ◌≤◌, Bool, true, false, not, ◌&&◌, ltb, List, length, get_or, set, take, replicate, inl, inr, refl, sym, ◌∙◌, ap, ap₂, subst, arith, add-one}
+use Rattle.std.proofs.lemmas.Bool.{cases_lt, cases_eq, lt-ltb, le-ltb, ne_eqb}
 use Rattle.std.proofs.lemmas.List.{get_or_read, get_or-replicate, get_or_past, get_or-set_same, get_or-set_other, length-set, length-replicate, take_all}
 use Rattle.std.proofs.lemmas.List.Sums.{length-filter, sum_by_more}
 use Rattle.std.proofs.lemmas.List.Folds.{list_any_none}
@@ -9,9 +9,9 @@ use Rattle.rcp_model.specs.declared.plan.SlotRow.{SlotRow}
 use Rattle.rcp_model.specs.declared.plan.PlanParts.{PlanParts}
 use Rattle.rcp_model.specs.Slot.{no_slot}
 use Rattle.rcp_model.specs.Messages.{is_voted}
-use Rattle.rcp_base.specs.Bits.{has_bit, WritesBit}
+use Rattle.rcp_base.specs.Bits.{has_bit, WritesBit, AreOthers}
 use Rattle.vote_pattern.specs.inner.Numbers.{number_count, AreBitsOf}
-use Rattle.vote_pattern.specs.Votes.{Votes, word_at, is_in, votes_at, vote_count, no_votes, ChangesVote, IsPatternOf, AreVotesOver}
+use Rattle.vote_pattern.specs.Votes.{Votes, word_at, is_in, AreUnvoted, votes_at, vote_count, no_votes, ChangesVote, IsPatternOf, AreVotesOver}
 use Rattle.vote_pattern.specs.inner.PatternFields.{AreSlotWords}
 use Rattle.rcp_base.proofs.BitLaws.{has_bit_zero}
 use Rattle.vote_pattern.proofs.BitLemmas.{none_past, same_sums, sum_more}
@@ -182,3 +182,18 @@ read_is_in votes now slot cell read are same s c is =
     let c' : cell < votes.cells = omega (arith, ap (λ (v : Votes). v.cells) same) in
     ap (λ (w : ℕ). has_bit w cell) (get_or_read votes.words slot read (omega arith) is 0)
     ∙ sym (is_bit votes slot cell s' c') ∙ ap (λ (v : Votes). is_in v slot cell) same
+
+-- the other cells are those that the slot does not vote
+pub others_unvoted : (votes now : Votes) (slot word other : ℕ) → AreSlotWords votes → votes ≡ now → slot < now.slots
+    → word ≡ get_or votes.words slot word → AreOthers word other votes.cells → AreUnvoted now slot other
+others_unvoted votes now slot word other are same s is others cell =
+    let cells : ltb cell votes.cells ≡ ltb cell now.cells = ap (λ (v : Votes). ltb cell v.cells) same in
+    elim (cases_lt cell now.cells) [
+      | inl inside ↦
+          let bit : has_bit word cell ≡ is_in now slot cell = read_is_in votes now slot cell word are same s inside is in
+          others cell ∙ ap₂ (λ (a b : Bool). a && not b) cells bit
+      | inr past ↦
+          let none : ltb cell now.cells ≡ false = le-ltb cell now.cells past in
+          others cell ∙ ap (λ (a : Bool). a && not (has_bit word cell)) (cells ∙ none)
+          ∙ sym (ap (λ (b : Bool). b && not (is_in now slot cell)) none)
+    ]

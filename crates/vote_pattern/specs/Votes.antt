@@ -1,5 +1,5 @@
 -- A vote pattern: which cells are voted in each slot. After NASA TM-102716; the words are this project's own.
-use Rattle.std.specs.Prelude.{◌≡◌, ◌≢◌, ℕ, ◌<◌, ◌&&◌, nat_lt, Bool, List, length, slice_index_or, replicate, All}
+use Rattle.std.specs.Prelude.{◌≡◌, ◌≢◌, ℕ, ◌<◌, ◌&&◌, nat_lt, Bool, not, List, length, slice_index_or, replicate, All}
 use Rattle.std.specs.List.{filter, range_with_len, sum_by}
 use Rattle.rcp_base.specs.Bits.{has_bit}
 use Rattle.rcp_model.specs.declared.plan.SlotRow.{SlotRow}
@@ -20,6 +20,10 @@ word_at votes slot = slice_index_or votes.words slot 0
 -- the slot votes the cell
 unfoldable pub is_in : Votes → ℕ → ℕ → Bool
 is_in votes slot cell = nat_lt slot votes.slots && nat_lt cell votes.cells && has_bit (word_at votes slot) cell
+
+-- the bits of the word are the cells that the slot does not vote
+abbrev pub AreUnvoted : Votes → ℕ → ℕ → Type 0
+AreUnvoted votes slot word = (cell : ℕ) → has_bit word cell ≡ (nat_lt cell votes.cells && not (is_in votes slot cell))
 
 -- the cells that the slot votes, from low to high
 unfoldable pub votes_at : Votes → ℕ → List ℕ

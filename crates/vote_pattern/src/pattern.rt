@@ -4,11 +4,11 @@ ghost use Rattle.std.specs.Prelude.{◌≡◌, ℕ, ◌<◌, ◌≤◌, true, fa
 ghost use Rattle.rcp_base.specs.declared.TheConstants.{MAX_CELLS, MAX_SLOTS};
 ghost use Rattle.rcp_model.specs.declared.plan.PlanParts.{PlanParts};
 ghost use Rattle.vote_pattern.specs.inner.Numbers.{AreBitsOf};
-ghost use Rattle.vote_pattern.specs.Votes.{AreVotesOver, IsPatternOf, ChangesVote, is_in, no_votes, vote_count};
+ghost use Rattle.vote_pattern.specs.Votes.{AreUnvoted, AreVotesOver, ChangesVote, IsPatternOf, is_in, no_votes, vote_count};
 
 use crate::bits::count;
 use rcp_base::Memory;
-use rcp_base::bits::{has_bit, with_bit, without_bit};
+use rcp_base::bits::{has_bit, other_bits, with_bit, without_bit};
 use rcp_model::{Plan, PlanParts};
 use std::alloc::Global;
 use std::marker::Model;
@@ -85,6 +85,14 @@ impl Pattern {
         ensures { result ≡ is_in self.now slot cell }
     {
         has_bit(self.words[slot as usize], cell)
+    }
+
+    /// The cells that the slot does not vote, as bits.
+    pub fn unvoted(&self, slot: u32) -> u64
+        requires { slot < self.now.slots }
+        ensures { AreUnvoted self.now slot result }
+    {
+        other_bits(self.words[slot as usize], self.cells)
     }
 
     /// Lets the slot vote the cell. Takes no memory.
