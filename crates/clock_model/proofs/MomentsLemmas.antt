@@ -5,7 +5,7 @@ use Rattle.rcp_model.specs.declared.plan.Timing.{Timing}
 use Rattle.rcp_model.specs.FrameLimits.{IsWithin}
 use Rattle.rcp_model.specs.Moments.{begin_tick, local_ticks, send_tick}
 use Rattle.rcp_model.specs.TimingRules.{KeepsRules, frame_length}
-use Rattle.clock_model.specs.Moments.{IsClock, IsSendTick, MayBegin}
+use Rattle.clock_model.specs.Moments.{IsBeginTick, IsClock, IsSendTick, MayBegin}
 use Rattle.clock_model.proofs.DriftLemmas.{computed_product, product_back, rounded_down-small}
 
 -- the ticks of all frames before one
@@ -19,10 +19,6 @@ frames_fit frame (pos n) h k =
     let product : frame * n ≤ 1_000_000 * 4_000_000_000 = mul-le-mul h small in
     (omega (arith, ints), omega (arith, ints))
 frames_fit frame (negsuc n) h k = absurd (omega (arith, ints))
-
--- the tick of a begin
-abbrev pub IsBeginTick : ℤ → Type 0
-IsBeginTick x = (neg_ℤ (pos 1_000_000_000) ≤ℤ x) × (x ≤ℤ pos 4_000_001_000_000_000)
 
 -- a begin is the same of the skew that code reads
 pub record IsTold (timing : Timing) (frame : ℕ) (skew : ℤ) : Type 0 where

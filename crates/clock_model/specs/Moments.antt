@@ -15,6 +15,14 @@ pub record IsClock (timing : Timing) (frame : ℕ) (skew rate : ℤ) : Type 0 wh
   pub begins : MayBegin timing frame skew
   pub rate_limit : IsWithin timing.drift_limit_ppm rate
 
+-- a tick at which a frame may begin
+abbrev pub IsBeginTick : ℤ → Type 0
+IsBeginTick tick = (neg_ℤ (pos 1_000_000_000) ≤ℤ tick) × (tick ≤ℤ pos 4_000_001_000_000_000)
+
+-- a tick at which a replica may vote or sync, by any clock
+abbrev pub IsFrameTick : ℤ → Type 0
+IsFrameTick tick = (neg_ℤ (pos 10_000_000_000_000) ≤ℤ tick) × (tick ≤ℤ pos 10_000_000_000_000_000)
+
 -- a tick at which a message may be sent
 abbrev pub IsSendTick : ℤ → Type 0
 IsSendTick tick = (neg_ℤ (pos 10_000_000_000) ≤ℤ tick) × (tick ≤ℤ pos 10_000_000_000_000_000)

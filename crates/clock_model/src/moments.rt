@@ -3,7 +3,7 @@
 ghost use Rattle.std.specs.Prelude.{◌≡◌, ◌+ℤ◌};
 ghost use Rattle.rcp_model.specs.Moments.{local_ticks, begin_tick, send_tick, vote_tick, sync_tick, arrival_tick, is_in_window};
 ghost use Rattle.rcp_model.specs.TimingRules.{KeepsRules};
-ghost use Rattle.clock_model.specs.Moments.{IsClock, IsDelay, IsSendTick, MayBegin};
+ghost use Rattle.clock_model.specs.Moments.{IsBeginTick, IsClock, IsDelay, IsFrameTick, IsSendTick, MayBegin};
 ghost use Rattle.clock_model.specs.Ranges.{IsSpan};
 
 use crate::drift::rounded_down;
@@ -13,7 +13,8 @@ use rcp_model::Timing;
 /// The tick at which a replica begins a frame, with its skew in ticks.
 pub fn begin(timing: &Timing, frame: u32, skew: i64) -> i64
     requires { MayBegin timing.now frame skew }
-    ensures { result ≡ begin_tick timing.now frame skew }
+    ensures value { result ≡ begin_tick timing.now frame skew }
+    ensures range { IsBeginTick result }
 {
     i64::from(frame) * frame_length(timing) + skew
 }
@@ -22,7 +23,8 @@ pub fn begin(timing: &Timing, frame: u32, skew: i64) -> i64
 fn passed(timing: &Timing, frame: u32, skew: i64, rate: i64, ticks: i64) -> i64
     requires clock { IsClock timing.now frame skew rate }
     requires span { IsSpan ticks }
-    ensures { result ≡ begin_tick timing.now frame skew +ℤ local_ticks rate ticks }
+    ensures value { result ≡ begin_tick timing.now frame skew +ℤ local_ticks rate ticks }
+    ensures range { IsFrameTick result }
 {
     begin(timing, frame, skew) + ticks + rounded_down(ticks, rate)
 }
@@ -41,7 +43,8 @@ pub fn send(timing: &Timing, frame: u32, skew: i64, rate: i64) -> i64
 /// The tick at which it votes, with its skew in ticks and its rate in parts per million.
 pub fn vote(timing: &Timing, frame: u32, skew: i64, rate: i64) -> i64
     requires { IsClock timing.now frame skew rate }
-    ensures { result ≡ vote_tick timing.now frame skew rate }
+    ensures value { result ≡ vote_tick timing.now frame skew rate }
+    ensures range { IsFrameTick result }
 {
     passed(timing, frame, skew, rate, timing.compute + timing.broadcast)
 }
@@ -49,7 +52,8 @@ pub fn vote(timing: &Timing, frame: u32, skew: i64, rate: i64) -> i64
 /// The tick at which it has voted, and syncs, with its skew in ticks and its rate in parts per million.
 pub fn sync(timing: &Timing, frame: u32, skew: i64, rate: i64) -> i64
     requires { IsClock timing.now frame skew rate }
-    ensures { result ≡ sync_tick timing.now frame skew rate }
+    ensures value { result ≡ sync_tick timing.now frame skew rate }
+    ensures range { IsFrameTick result }
 {
     passed(
         timing,

@@ -17,5 +17,8 @@ overflow_mul-result c = omega (arith, ints, (begun c).frames)
 pub overflow_add-result : goal.overflow_add-result
 overflow_add-result c = omega (arith, ints, (begun c).frames, (begun c).small)
 
-pub returns : goal.returns
-returns c = omega (arith, ints, (begun c).frames, (begun c).small, (begun c).value)
+pub returns-clause-value : goal.returns-clause-value
+returns-clause-value c = omega (arith, ints, (begun c).frames, (begun c).small, (begun c).value)
+
+pub returns-clause-range : goal.returns-clause-range
+returns-clause-range c = (omega (arith, ints, (begun c).frames, (begun c).small), omega (arith, ints, (begun c).frames, (begun c).small))

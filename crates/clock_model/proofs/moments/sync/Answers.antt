@@ -5,9 +5,9 @@ use Rattle.clock_model.proofs.DriftLemmas.{back_sums}
 use Rattle.clock_model.proofs.MomentsLemmas.{moment_back}
 use Rattle.clock_model.proofs.moments.sync.Goals as goal
 
-pub returns : goal.returns
+pub returns-clause-value : goal.returns-clause-value
 unfolding sync_tick
-returns c =
+returns-clause-value c =
     let timing = c.args.timing.now in
     let ranges = c.requires.begins.in_range in
     let moment = moment_back timing c.args.frame c.args.skew c.args.rate _ (timing.compute +ℤ timing.broadcast +ℤ timing.vote) c.ranges.skew c.ranges.rate
