@@ -1,4 +1,5 @@
 pub mod TimingLaws
+pub mod RowLaws
 pub mod RoundingLaws
 pub mod NameLaws
 pub mod ExprLaws

@@ -9,6 +9,7 @@ pub mod Moments
 pub mod FrameRows
 pub mod RowWrites
 pub mod FrameLimits
+pub mod RowLaws
 pub mod History
 pub mod Health
 pub mod Messages
