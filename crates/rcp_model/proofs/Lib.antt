@@ -1,5 +1,6 @@
 pub mod TimingLaws
 pub mod RowLaws
+pub mod FrameLimitLaws
 pub mod RoundingLaws
 pub mod NameLaws
 pub mod ExprLaws
