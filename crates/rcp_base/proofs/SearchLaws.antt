@@ -1,12 +1,12 @@
 -- Tests and searches below a number.
 use Rattle.std.proofs.Common.{◌≡◌, ℕ, ◌+◌, ◌<◌, ◌≤◌, zero, suc, Bool, true, false, [], ◌∷◌, ◌++◌, get_or, ltb, refl, sym, ◌∙◌, ap, subst, inl, inr, arith}
-use Rattle.std.specs.Prelude.{◌||◌}
-use Rattle.std.specs.List.{list_any, range_with_len}
+use Rattle.std.specs.Prelude.{◌||◌, ◌&&◌}
+use Rattle.std.specs.List.{list_any, list_all, range_with_len}
 use Rattle.std.proofs.lemmas.Bool.{or_cases, cases_eq, cases_lt, cases_Bool, false≢true, false_from_ne_true, both_ways, cond-true, cond-false, lt-ltb, le-ltb}
-use Rattle.std.proofs.lemmas.List.Folds.{list_any_at, list_any-append}
+use Rattle.std.proofs.lemmas.List.Folds.{list_any_at, list_any-append, list_all-append}
 use Rattle.std.proofs.Math.Bool.{or-false}
 use Rattle.std.proofs.lemmas.List.FromFn.{get_or-range_with_len, length-range_with_len}
-use Rattle.rcp_base.specs.Search.{any_below, first_below, IsFirst, lowest_below}
+use Rattle.rcp_base.specs.Search.{all_below, any_below, first_below, IsFirst, lowest_below}
 
 -- two tests, each of which holds where the other does
 pub both_or_none : (a b : Bool) → (a ≡ true → b ≡ true) → (b ≡ true → a ≡ true) → a ≡ b
@@ -66,6 +66,33 @@ pub any_same : (n : ℕ) (one other : ℕ → Bool) → ((i : ℕ) → i < n →
 any_same n one other same = both_or_none (any_below n one) (any_below n other)
     (λ h. let p = any_found n one h in any_of n other p.v p.below (sym (same p.v p.below) ∙ p.passes))
     (λ h. let p = any_found n other h in any_of n one p.v p.below (same p.v p.below ∙ p.passes))
+
+-- a test of all numbers, with one number more
+pub all_more : (n : ℕ) (test : ℕ → Bool) → all_below (suc n) test ≡ (all_below n test && test n)
+all_more n test =
+    let z : 0 + n ≡ n = omega arith in
+    ap (list_all test) (range_more 0 n ∙ ap (λ x. range_with_len 0 n ++ x ∷ []) z)
+    ∙ list_all-append test (range_with_len 0 n) (n ∷ [])
+    ∙ ap (λ b. all_below n test && b) (with_true (test n))
+  where
+    with_true : (b : Bool) → (b && true) ≡ b
+    with_true true = refl
+    with_true false = refl
+
+pub all_same : (n : ℕ) (one other : ℕ → Bool) → ((i : ℕ) → i < n → one i ≡ other i) → all_below n one ≡ all_below n other
+all_same zero one other same = refl
+all_same (suc n) one other same =
+    all_more n one
+    ∙ ap (λ b. b && one n) (all_same n one other (λ i l. same i (omega arith)))
+    ∙ ap (λ b. all_below n other && b) (same n (omega arith))
+    ∙ sym (all_more n other)
+
+pub all_pass : (n : ℕ) (test : ℕ → Bool) → ((i : ℕ) → i < n → test i ≡ true) → all_below n test ≡ true
+all_pass zero test each = refl
+all_pass (suc n) test each =
+    all_more n test
+    ∙ ap (λ b. b && test n) (all_pass n test (λ i l. each i (omega arith)))
+    ∙ each n (omega arith)
 
 pub first_is : (n : ℕ) (test : ℕ → Bool) → any_below n test ≡ true → IsFirst n test (first_below n test)
 first_is zero test h = absurd (false≢true h)

@@ -167,8 +167,12 @@ shown_same g h a nodes shown =
       cycle = cycle_same g h a nodes c;
       witness = record {
         some = p.some;
-        reached = (p.reached.0, p.reached.1, subst (λ (k : ℕ). IsReached h k (at nodes p.reached.0)) many
-        (reached_same g h a (node_count g) (at nodes p.reached.0) p.reached.2));
+        reached = (
+          p.reached.0,
+          p.reached.1,
+          subst (λ (k : ℕ). IsReached h k (at nodes p.reached.0)) many
+              (reached_same g h a (node_count g) (at nodes p.reached.0) p.reached.2),
+        );
         backs = λ i l. core_step g h a (at nodes (i + 1)) (at nodes i) (c.walk.unvoted (i + 1) l) (p.backs i l);
         closes = core_step g h a (at nodes 0) (at nodes (length nodes - 1)) (c.walk.unvoted 0 p.some) p.closes;
         distinct = p.distinct;

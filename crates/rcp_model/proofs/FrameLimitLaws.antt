@@ -103,14 +103,22 @@ module _ (plan : PlanParts) (rows : FrameRows) (tables : AreTables rows) (h : Ar
   pub sensor_within : (sensor : ℕ) (value : ℤ) → AreWithinLimits plan (with_sensor rows sensor value)
   unfolding with_sensor
   sensor_within sensor value = by_told _ _ ((each_row rows tables).sensor sensor value) refl (record {
-    slot = before.slot; lie_slot = before.lie_slot; skew = before.skew; rate = before.rate; delay = before.delay;
+    slot = before.slot;
+    lie_slot = before.lie_slot;
+    skew = before.skew;
+    rate = before.rate;
+    delay = before.delay;
     own = λ q. record { lie = (own_before q).lie; lie_slot = (own_before q).lie_slot; drop = (own_before q).drop; delay = (own_before q).delay };
   })
 
   pub down_within : (p : ℕ) → p < rows.replicas → AreWithinLimits plan (with_down rows p)
   unfolding with_down
   down_within p a = by_told _ _ ((each_row rows tables).down p a) refl (record {
-    slot = before.slot; lie_slot = before.lie_slot; skew = before.skew; rate = before.rate; delay = before.delay;
+    slot = before.slot;
+    lie_slot = before.lie_slot;
+    skew = before.skew;
+    rate = before.rate;
+    delay = before.delay;
     own = λ q. record { lie = (own_before q).lie; lie_slot = (own_before q).lie_slot; drop = (own_before q).drop; delay = (own_before q).delay };
   })
 
@@ -118,28 +126,42 @@ module _ (plan : PlanParts) (rows : FrameRows) (tables : AreTables rows) (h : Ar
   unfolding with_slot
   slot_within p slot a lt = by_told _ _ ((each_row rows tables).slot p slot a) refl (record {
     slot = one_kept (IsSlotBelow plan) (slot_row rows) p (Some slot) (slot_below plan slot lt) h.slot;
-    lie_slot = before.lie_slot; skew = before.skew; rate = before.rate; delay = before.delay;
+    lie_slot = before.lie_slot;
+    skew = before.skew;
+    rate = before.rate;
+    delay = before.delay;
     own = λ q. record { lie = (own_before q).lie; lie_slot = (own_before q).lie_slot; drop = (own_before q).drop; delay = (own_before q).delay };
   })
 
   pub cell_within : (p c : ℕ) (x : ℤ) → p < rows.replicas → c < rows.cells → AreWithinLimits plan (with_cell rows p c x)
   unfolding with_cell
   cell_within p c x a b = by_told _ _ ((each_row rows tables).cell p c x a b) refl (record {
-    slot = before.slot; lie_slot = before.lie_slot; skew = before.skew; rate = before.rate; delay = before.delay;
+    slot = before.slot;
+    lie_slot = before.lie_slot;
+    skew = before.skew;
+    rate = before.rate;
+    delay = before.delay;
     own = λ q. record { lie = (own_before q).lie; lie_slot = (own_before q).lie_slot; drop = (own_before q).drop; delay = (own_before q).delay };
   })
 
   pub act_within : (p n : ℕ) (x : ℤ) → p < rows.replicas → n < rows.actuators → AreWithinLimits plan (with_act rows p n x)
   unfolding with_act
   act_within p n x a b = by_told _ _ ((each_row rows tables).act p n x a b) refl (record {
-    slot = before.slot; lie_slot = before.lie_slot; skew = before.skew; rate = before.rate; delay = before.delay;
+    slot = before.slot;
+    lie_slot = before.lie_slot;
+    skew = before.skew;
+    rate = before.rate;
+    delay = before.delay;
     own = λ q. record { lie = (own_before q).lie; lie_slot = (own_before q).lie_slot; drop = (own_before q).drop; delay = (own_before q).delay };
   })
 
   pub skew_within : (p : ℕ) (x : ℤ) → p < rows.replicas → IsWithin plan.timing.skew_limit x → AreWithinLimits plan (with_skew rows p x)
   unfolding with_skew
   skew_within p x a within = by_told _ _ ((each_row rows tables).skew p x a) refl (record {
-    slot = before.slot; lie_slot = before.lie_slot; rate = before.rate; delay = before.delay;
+    slot = before.slot;
+    lie_slot = before.lie_slot;
+    rate = before.rate;
+    delay = before.delay;
     skew = one_kept (IsWithin plan.timing.skew_limit) (skew_of rows) p x within h.skew;
     own = λ q. record { lie = (own_before q).lie; lie_slot = (own_before q).lie_slot; drop = (own_before q).drop; delay = (own_before q).delay };
   })
@@ -147,7 +169,10 @@ module _ (plan : PlanParts) (rows : FrameRows) (tables : AreTables rows) (h : Ar
   pub rate_within : (p : ℕ) (x : ℤ) → p < rows.replicas → IsWithin plan.timing.drift_limit_ppm x → AreWithinLimits plan (with_rate rows p x)
   unfolding with_rate
   rate_within p x a within = by_told _ _ ((each_row rows tables).rate p x a) refl (record {
-    slot = before.slot; lie_slot = before.lie_slot; skew = before.skew; delay = before.delay;
+    slot = before.slot;
+    lie_slot = before.lie_slot;
+    skew = before.skew;
+    delay = before.delay;
     rate = one_kept (IsWithin plan.timing.drift_limit_ppm) (rate_of rows) p x within h.rate;
     own = λ q. record { lie = (own_before q).lie; lie_slot = (own_before q).lie_slot; drop = (own_before q).drop; delay = (own_before q).delay };
   })
@@ -155,10 +180,15 @@ module _ (plan : PlanParts) (rows : FrameRows) (tables : AreTables rows) (h : Ar
   pub lie_slot_within : (p q slot : ℕ) → p < rows.replicas → q < rows.replicas → p ≢ q → slot < slot_count plan → AreWithinLimits plan (with_lie_slot rows p q slot)
   unfolding with_lie_slot
   lie_slot_within p q slot a b ne lt = by_told _ _ ((each_row rows tables).lie_slot p q slot a b) refl (record {
-    slot = before.slot; skew = before.skew; rate = before.rate; delay = before.delay;
+    slot = before.slot;
+    skew = before.skew;
+    rate = before.rate;
+    delay = before.delay;
     lie_slot = pair_kept (IsSlotBelow plan) (lie_slot_row rows) p q (Some slot) (slot_below plan slot lt) h.lie_slot;
     own = λ r. record {
-      lie = (own_before r).lie; drop = (own_before r).drop; delay = (own_before r).delay;
+      lie = (own_before r).lie;
+      drop = (own_before r).drop;
+      delay = (own_before r).delay;
       lie_slot = cond-false _ (Some slot) (lie_slot_row rows r r) (not_itself p q r ne) ∙ (own_before r).lie_slot;
     };
   })
@@ -166,9 +196,15 @@ module _ (plan : PlanParts) (rows : FrameRows) (tables : AreTables rows) (h : Ar
   pub drop_within : (p q : ℕ) → p < rows.replicas → q < rows.replicas → p ≢ q → AreWithinLimits plan (with_drop rows p q)
   unfolding with_drop
   drop_within p q a b ne = by_told _ _ ((each_row rows tables).dropped p q a b) refl (record {
-    slot = before.slot; lie_slot = before.lie_slot; skew = before.skew; rate = before.rate; delay = before.delay;
+    slot = before.slot;
+    lie_slot = before.lie_slot;
+    skew = before.skew;
+    rate = before.rate;
+    delay = before.delay;
     own = λ r. record {
-      lie = (own_before r).lie; lie_slot = (own_before r).lie_slot; delay = (own_before r).delay;
+      lie = (own_before r).lie;
+      lie_slot = (own_before r).lie_slot;
+      delay = (own_before r).delay;
       drop = cond-false _ true (is_dropped rows r r) (not_itself p q r ne) ∙ (own_before r).drop;
     };
   })
@@ -176,10 +212,15 @@ module _ (plan : PlanParts) (rows : FrameRows) (tables : AreTables rows) (h : Ar
   pub delay_within : (p q : ℕ) (x : ℤ) → p < rows.replicas → q < rows.replicas → p ≢ q → IsDelayOf plan x → AreWithinLimits plan (with_delay rows p q x)
   unfolding with_delay
   delay_within p q x a b ne within = by_told _ _ ((each_row rows tables).delay p q x a b) refl (record {
-    slot = before.slot; lie_slot = before.lie_slot; skew = before.skew; rate = before.rate;
+    slot = before.slot;
+    lie_slot = before.lie_slot;
+    skew = before.skew;
+    rate = before.rate;
     delay = pair_kept (IsDelayOf plan) (delay_of rows) p q x within h.delay;
     own = λ r. record {
-      lie = (own_before r).lie; lie_slot = (own_before r).lie_slot; drop = (own_before r).drop;
+      lie = (own_before r).lie;
+      lie_slot = (own_before r).lie_slot;
+      drop = (own_before r).drop;
       delay = cond-false _ x (delay_of rows r r) (not_itself p q r ne) ∙ (own_before r).delay;
     };
   })
@@ -187,9 +228,15 @@ module _ (plan : PlanParts) (rows : FrameRows) (tables : AreTables rows) (h : Ar
   pub lie_within : (p q c : ℕ) (x : ℤ) → p < rows.replicas → q < rows.replicas → c < rows.cells → p ≢ q → AreWithinLimits plan (with_lie rows p q c x)
   unfolding with_lie
   lie_within p q c x a b d ne = by_told _ _ ((each_row rows tables).lie p q c x a b d) refl (record {
-    slot = before.slot; lie_slot = before.lie_slot; skew = before.skew; rate = before.rate; delay = before.delay;
+    slot = before.slot;
+    lie_slot = before.lie_slot;
+    skew = before.skew;
+    rate = before.rate;
+    delay = before.delay;
     own = λ r. record {
-      lie_slot = (own_before r).lie_slot; drop = (own_before r).drop; delay = (own_before r).delay;
+      lie_slot = (own_before r).lie_slot;
+      drop = (own_before r).drop;
+      delay = (own_before r).delay;
       lie = λ k. ap (λ t. if t && (k == c) then Some x else lie_row rows r r k) (not_itself p q r ne) ∙ (own_before r).lie k;
     };
   })

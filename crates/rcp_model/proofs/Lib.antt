@@ -1,5 +1,7 @@
 pub mod TimingLaws
 pub mod RowLaws
+mod VoteLaws
+pub mod HistoryLaws
 pub mod FrameLimitLaws
 pub mod RoundingLaws
 pub mod NameLaws

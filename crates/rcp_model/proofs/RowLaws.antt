@@ -84,7 +84,7 @@ module _ (rows : FrameRows) (tables : AreTables rows) where
         | inl inside ↦
             cond-true (nat_lt s rows.replicas) _ _ (lt-ltb s rows.replicas inside)
             ∙ read_entry rows.cells rows.lies (p * rows.replicas + q) c (Some x) None (r * rows.replicas + s) k d
-              (let within = mul-add-lt (p * rows.replicas + q) rows.cells c (rows.replicas * rows.replicas) (pair_within p q a b) d in omega (arith, within, tables.lies))
+            (let within = mul-add-lt (p * rows.replicas + q) rows.cells c (rows.replicas * rows.replicas) (pair_within p q a b) d in omega (arith, within, tables.lies))
             ∙ ap (λ b. if b && (k == c) then Some x else entry_at rows.cells rows.lies (r * rows.replicas + s) k None) (same_pair inside)
             ∙ sym (elim (cases_Bool ((r == p) && (s == q) && (k == c))) [
               | inl t ↦ cond-true _ _ _ t ∙ sym (cond-true _ _ _ t)

@@ -17,6 +17,8 @@ pub mod Ballot
 pub mod Command
 pub mod System
 pub mod AtFrame
+pub mod HistoryLaws
+pub mod VoteLaws
 pub mod Dependence
 pub mod Node
 pub mod Walk

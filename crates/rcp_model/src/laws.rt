@@ -2,7 +2,9 @@
 //! This project's own.
 ghost use Rattle.rcp_model.specs.Laws.{TheFirstFailedRuleIsTold, TheDelayLimitFollows, PartsAreRounded};
 
+pub mod frames;
 pub mod graphs;
+pub mod votes;
 
 /// The rule that is told is the first that a timing breaks, and none exactly where the timing keeps all five.
 pub fn the_first_failed_rule_is_told()
