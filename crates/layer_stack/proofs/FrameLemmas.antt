@@ -1,9 +1,15 @@
 -- The tables of a quiet frame, and what a table has at a place.
 use Rattle.std.proofs.Common.{◌≡◌, ℕ, ◌+◌, ◌*◌, ◌<◌, ◌≤◌, false, ℤ, pos, List, length, get_or, Option, None, replicate, arith, sym, subst}
+use Rattle.std.specs.Prelude.{Result, Ok, Err, IfOk}
 use Rattle.std.proofs.lemmas.Bool.{lt-ltb}
 use Rattle.std.proofs.lemmas.List.{length-replicate, get_or_read}
 use Rattle.std.proofs.lemmas.Nat.{mul-add-lt}
-use Rattle.rcp_model.specs.FrameRows.{FrameRows, AreTables, lie_row, entry_at}
+use Rattle.rcp_model.specs.declared.plan.PlanParts.{PlanParts}
+use Rattle.rcp_model.specs.FrameLimits.{IsFrameOf}
+use Rattle.rcp_model.specs.FrameRows.{FrameRows, AreTables, AreRowsOf, lie_row, entry_at, no_rows}
+use Rattle.rcp_model.specs.Plan.{IsPlan}
+use Rattle.rcp_model.specs.Uniprocessor.{initial_values}
+use Rattle.rcp_model.proofs.FrameOfLaws.{first_frame}
 use Rattle.rcp_model.specs.RowWrites.{cleared}
 use Rattle.layer_stack.specs.declared.frame_in.FrameIn.TheInside.{Inside}
 use Rattle.layer_stack.specs.FrameFields.{IsFrame, rows_in}
@@ -75,3 +81,15 @@ lie_is rows sender receiver cell x tables s r c read =
     let place : (sender * rows.replicas + receiver) * rows.cells + cell < length rows.lies =
     omega (arith, tables.lies, mul-add-lt (sender * rows.replicas + receiver) rows.cells cell (rows.replicas * rows.replicas) pair c) in
     rw (lt-ltb receiver rows.replicas r, lt-ltb cell rows.cells c) (get_or_read rows.lies _ x place read None)
+
+-- two facts of what was made give a third
+pub both_ok : {X E : Type 0} (P Q R : X → Type 0) → ((x : X) → P x → Q x → R x) → (r : Result X E) → IfOk r P → IfOk r Q → IfOk r R
+both_ok P Q R give (Ok x) p q = give x p q
+both_ok P Q R give (Err e) p q = tt
+
+-- the rows of the first frame are a frame of the plan
+pub first_of_plan : {E : Type 0} (plan : PlanParts) → IsPlan plan → (r : Result FrameRows E)
+    → IfOk r (λ frame. frame ≡ no_rows plan (initial_values plan.sensors)) → IfOk r (AreRowsOf plan) → IfOk r (IsFrameOf plan)
+first_of_plan plan is r =
+    both_ok (λ frame. frame ≡ no_rows plan (initial_values plan.sensors)) (AreRowsOf plan) (IsFrameOf plan)
+    (λ frame same are. rw same (first_frame plan is (rw same at are))) r

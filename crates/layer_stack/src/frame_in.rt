@@ -2,6 +2,7 @@
 //! This project's own.
 ghost use Rattle.std.specs.Prelude.{◌≡◌, ◌≤◌, length, IfOk, replicate};
 ghost use Rattle.rcp_model.specs.declared.plan.PlanParts.{PlanParts};
+ghost use Rattle.rcp_model.specs.FrameLimits.{IsFrameOf};
 ghost use Rattle.rcp_model.specs.FrameRows.{AreRowsOf, no_rows, quiet_rows};
 ghost use Rattle.rcp_model.specs.RowWrites.{cleared};
 ghost use Rattle.rcp_model.specs.Uniprocessor.{initial_values};
@@ -56,7 +57,7 @@ impl FrameIn {
     pub fn new(alloc: Global, plan: &Plan) -> Result<FrameIn, Memory>
         ensures rows { IfOk result (λ frame.
             frame ≡ no_rows plan.now (initial_values plan.now.sensors)) }
-        ensures of_plan { IfOk result (AreRowsOf plan.now) }
+        ensures of_plan { IfOk result (IsFrameOf plan.now) }
     {
         frame_of(alloc, plan.parts())
     }
@@ -64,7 +65,7 @@ impl FrameIn {
     /// Goes on to the next frame: the sensors keep their values, and all other rows go. Takes no memory.
     pub fn next_frame(&mut self)
         ensures rows { self.new ≡ cleared self.old }
-        ensures of_plan { (plan : PlanParts) → AreRowsOf plan self.old → AreRowsOf plan self.new }
+        ensures of_plan { (plan : PlanParts) → IsFrameOf plan self.old → IsFrameOf plan self.new }
     {
         if self.written {
             clear(&mut self.downs, false);

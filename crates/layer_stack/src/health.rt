@@ -2,6 +2,7 @@
 //! This project's own.
 ghost use Rattle.std.specs.Prelude.{◌≡◌, ◌<◌, ◌≤ℤ◌, pos, length, is_none};
 ghost use Rattle.rcp_model.specs.declared.plan.PlanParts.{PlanParts};
+ghost use Rattle.rcp_model.specs.FrameLimits.{IsFrameOf};
 ghost use Rattle.rcp_model.specs.FrameRows.{AreRowsOf, cell_row, act_row, lie_row};
 ghost use Rattle.rcp_base.specs.Search.{all_below};
 ghost use Rattle.rcp_model.specs.Health as model;
@@ -11,7 +12,7 @@ use rcp_model::{Plan, PlanParts, Timing};
 
 /// Whether no row of the frame touches a replica or its messages, and its clock and its delays are within the bounds of the plan.
 pub fn healthy(plan: &Plan, input: &FrameIn, replica: u32) -> bool
-    requires rows { AreRowsOf plan.now input.now }
+    requires rows { IsFrameOf plan.now input.now }
     requires replica { replica < plan.now.replicas }
     ensures { result ≡ model.is_healthy plan.now input.now replica }
 {

@@ -17,7 +17,8 @@ pub trait Inputs {
 
     /// How many frames there are.
     fn frames(&self) -> u32
-        ensures { (plan : PlanParts) (history : History) → tells self.now plan history → result ≡ length history };
+        ensures { (plan : PlanParts) (history : History)
+            → tells self.now plan history → result ≡ length history };
 
     /// How many of them are done.
     fn done(&self) -> u32
@@ -25,9 +26,12 @@ pub trait Inputs {
 
     /// Fills in the rows of the next frame, which is then done. Takes no memory.
     fn fill(&mut self, input: &mut FrameIn)
-        requires ready { (plan : PlanParts) × (history : History) × tells self.old plan history × CanFill plan history (done self.old) input.old }
-        ensures rows { (plan : PlanParts) (history : History) → tells self.old plan history → CanFill plan history (done self.old) input.old
+        requires ready { (plan : PlanParts) × (history : History)
+            × tells self.old plan history × CanFill plan history (done self.old) input.old }
+        ensures rows { (plan : PlanParts) (history : History) → tells self.old plan history
+            → CanFill plan history (done self.old) input.old
             → slice_get history (done self.old) ≡ Some input.new }
-        ensures history { (plan : PlanParts) (history : History) → tells self.old plan history → tells self.new plan history }
+        ensures history { (plan : PlanParts) (history : History)
+            → tells self.old plan history → tells self.new plan history }
         ensures done { done self.new ≡ suc (done self.old) };
 }

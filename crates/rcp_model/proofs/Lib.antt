@@ -3,6 +3,7 @@ pub mod RowLaws
 mod VoteLaws
 pub mod HistoryLaws
 pub mod FrameLimitLaws
+pub mod FrameOfLaws
 pub mod RoundingLaws
 pub mod NameLaws
 pub mod ExprLaws

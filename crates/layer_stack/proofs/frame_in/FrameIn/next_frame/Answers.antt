@@ -1,5 +1,6 @@
 use Rattle.std.proofs.Common.{◌≡◌, ◌∙◌, ap, refl, rules, w64, to_z, of_z}
 use Rattle.rcp_model.specs.RowWrites.{cleared}
+use Rattle.rcp_model.proofs.FrameOfLaws.{cleared_kept}
 use Rattle.layer_stack.proofs.FrameLemmas.{quiet_is_frame}
 use Rattle.layer_stack.proofs.frame_in.FrameIn.next_frame.Goals as goal
 
@@ -25,3 +26,6 @@ invariant_of-self c =
 pub returns-then-self-clause-rows : goal.returns-then-self-clause-rows
 unfolding cleared
 returns-then-self-clause-rows c = (invariant_of-self c).quiet refl ∙ ap cleared c.self.view_is
+
+pub returns-then-self-clause-of_plan : goal.returns-then-self-clause-of_plan
+returns-then-self-clause-of_plan c plan h = rw (returns-then-self-clause-rows c) (cleared_kept plan c.args.self.now h)

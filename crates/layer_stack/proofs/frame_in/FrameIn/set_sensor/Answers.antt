@@ -1,6 +1,7 @@
-use Rattle.std.proofs.Common.{ap, set, w64, to_z, of_z}
+use Rattle.std.proofs.Common.{ap, set, rules, w64, to_z, of_z}
 use Rattle.rcp_model.specs.FrameRows.{FrameRows}
-use Rattle.rcp_model.specs.RowWrites.{cleared}
+use Rattle.rcp_model.specs.RowWrites.{cleared, with_sensor}
+use Rattle.rcp_model.proofs.FrameOfLaws.{sensor_kept}
 use Rattle.layer_stack.specs.FrameFields.{rows_in}
 use Rattle.layer_stack.proofs.FrameLemmas.{tables_beside}
 use Rattle.layer_stack.proofs.frame_in.FrameIn.set_sensor.Goals as goal
@@ -17,3 +18,10 @@ invariant_of-self c =
       few_actuators = h.few_actuators;
       quiet = λ still. ap (λ (rows : FrameRows). record rows { sensors = sensors }) (h.quiet still);
     }
+
+pub returns-clause-row : goal.returns-clause-row
+unfolding with_sensor
+returns-clause-row c = search rules
+
+pub returns-clause-of_plan : goal.returns-clause-of_plan
+returns-clause-of_plan c plan h = rw (returns-clause-row c) (sensor_kept plan c.args.self.now h c.args.sensor c.args.value)

@@ -1,0 +1,11 @@
+use Rattle.std.proofs.Common.{rules}
+use Rattle.rcp_model.specs.RowWrites.{with_rate}
+use Rattle.rcp_model.proofs.FrameOfLaws.{rate_kept}
+use Rattle.layer_stack.proofs.frame_in.FrameIn.set_rate.Goals as goal
+
+pub returns-clause-row : goal.returns-clause-row
+unfolding with_rate
+returns-clause-row c = search rules
+
+pub returns-clause-of_plan : goal.returns-clause-of_plan
+returns-clause-of_plan c plan h within = rw (returns-clause-row c) (rate_kept plan c.args.self.now h c.args.replica c.args.ppm c.requires within)
