@@ -1,6 +1,6 @@
 -- Runs of the counter plan. Its recovery length is 1.
 -- This project's own.
-use Rattle.std.proofs.Common.{◌≡◌, refl, true, false, Bool, ℤ, pos, [], ◌∷◌, Some, None}
+use Rattle.std.proofs.Common.{◌≡◌, ℕ, refl, true, false, Bool, ℤ, pos, [], ◌∷◌, Some, None}
 use Rattle.rcp_model.specs.declared.plan.PlanParts.{PlanParts}
 use Rattle.rcp_model.specs.FrameRows.{FrameRows, no_rows}
 use Rattle.rcp_model.specs.History.{History}
@@ -8,7 +8,7 @@ use Rattle.rcp_model.specs.RowWrites.{with_down, with_cell, with_delay, with_lie
 use Rattle.rcp_model.specs.Messages.{arrival_of}
 use Rattle.rcp_model.specs.Moments.{begin_tick}
 use Rattle.rcp_model.proofs.ExampleEngines.{counter_engine, counter_engine_is}
-use Rattle.rcp_model.proofs.ExamplePlans.{number_cell, counter_plan_of, counter_plan}
+use Rattle.rcp_model.proofs.ExamplePlans.{number_cell, counter_plan_of, counter_plan_voting, counter_plan}
 use Rattle.rcp_model.proofs.ExampleRuns.{ReplicaShown, Shows, shows_by, definitions, up, down, frame}
 
 -- a replica with this number, in the one slot
@@ -28,7 +28,7 @@ a_tie_votes_none : Shows two_replicas 1 (with_cell (quiet two_replicas) 1 number
     ∷ frame false None (counter (pos 2) true ∷ counter (pos 6) true ∷ [])
     ∷ [])
 unfolding definitions
-a_tie_votes_none = shows_by _ _ counter_engine _ _ (counter_engine_is 2) refl
+a_tie_votes_none = shows_by _ _ counter_engine _ _ (counter_engine_is [] 2) refl
 
 -- the message of replica 0 to replica 2 is late
 abbrev late_to_2 : ℤ → FrameRows
@@ -50,7 +50,7 @@ a_stale_message_meets_the_next_frame : Shows counter_plan 1 (stale_by (pos 20_00
     ∷ frame false None (down 0 (pos 1 ∷ []) false ∷ counter (pos 2) false ∷ counter (pos 1) true ∷ [])
     ∷ [])
 unfolding definitions
-a_stale_message_meets_the_next_frame = shows_by _ _ counter_engine _ _ (counter_engine_is 3) refl
+a_stale_message_meets_the_next_frame = shows_by _ _ counter_engine _ _ (counter_engine_is [] 3) refl
 
 -- a tick sooner it is in no frame, and replica 2 keeps its own
 a_tick_sooner_it_is_not_heard : Shows counter_plan 1 (stale_by (pos 19_999))
@@ -58,7 +58,7 @@ a_tick_sooner_it_is_not_heard : Shows counter_plan 1 (stale_by (pos 19_999))
     ∷ frame false (Some (pos 2)) (down 0 (pos 1 ∷ []) false ∷ counter (pos 2) false ∷ counter (pos 2) true ∷ [])
     ∷ [])
 unfolding definitions
-a_tick_sooner_it_is_not_heard = shows_by _ _ counter_engine _ _ (counter_engine_is 3) refl
+a_tick_sooner_it_is_not_heard = shows_by _ _ counter_engine _ _ (counter_engine_is [] 3) refl
 
 -- where replica 0 is up in the next frame, its new message is heard in the place of the late one
 a_new_message_goes_before_a_late_one :
@@ -67,7 +67,7 @@ a_new_message_goes_before_a_late_one :
     ∷ frame false (Some (pos 2)) (counter (pos 2) true ∷ counter (pos 2) false ∷ counter (pos 2) true ∷ [])
     ∷ [])
 unfolding definitions
-a_new_message_goes_before_a_late_one = shows_by _ _ counter_engine _ _ (counter_engine_is 3) refl
+a_new_message_goes_before_a_late_one = shows_by _ _ counter_engine _ _ (counter_engine_is [] 3) refl
 
 -- a guard that has failed once holds in no later frame, though all are healthy again
 the_guard_stays_broken :
@@ -77,4 +77,26 @@ the_guard_stays_broken :
     ∷ frame false (Some (pos 2)) (counter (pos 2) true ∷ counter (pos 2) true ∷ counter (pos 2) true ∷ [])
     ∷ [])
 unfolding definitions
-the_guard_stays_broken = shows_by _ _ counter_engine _ _ (counter_engine_is 3) refl
+the_guard_stays_broken = shows_by _ _ counter_engine _ _ (counter_engine_is [] 3) refl
+
+-- the same plans with the number voted by the median
+abbrev median_plan : ℕ → PlanParts
+median_plan replicas = counter_plan_voting (number_cell ∷ []) replicas
+
+-- two replicas that differ take the lower of their two values
+a_tie_takes_the_lower_middle : Shows (median_plan 2) 1 (with_cell (quiet (median_plan 2)) 1 number_cell (pos 5) ∷ quiet (median_plan 2) ∷ [])
+    (frame false (Some (pos 1)) (counter (pos 1) true ∷ counter (pos 5) false ∷ [])
+    ∷ frame false (Some (pos 2)) (counter (pos 2) true ∷ counter (pos 2) true ∷ [])
+    ∷ [])
+unfolding definitions
+a_tie_takes_the_lower_middle = shows_by _ _ counter_engine _ _ (counter_engine_is (number_cell ∷ []) 2) refl
+
+-- three that all differ take the one in the middle, also where that is not the single processor's
+three_values_take_the_middle :
+    Shows (median_plan 3) 1
+    (with_cell (with_cell (quiet (median_plan 3)) 0 number_cell (pos 4)) 1 number_cell (pos 8) ∷ quiet (median_plan 3) ∷ [])
+    (frame false (Some (pos 1)) (counter (pos 4) false ∷ counter (pos 8) false ∷ counter (pos 1) true ∷ [])
+    ∷ frame false (Some (pos 5)) (counter (pos 5) true ∷ counter (pos 5) true ∷ counter (pos 5) true ∷ [])
+    ∷ [])
+unfolding definitions
+three_values_take_the_middle = shows_by _ _ counter_engine _ _ (counter_engine_is (number_cell ∷ []) 3) refl

@@ -9,7 +9,7 @@ use Rattle.rcp_model.specs.Expr.{Value, value_of}
 use Rattle.rcp_model.specs.Slot.{cells_after_slot, actuator_value, no_actuator}
 use Rattle.rcp_model.specs.Task.{cell_after, cells_after_task}
 use Rattle.rcp_model.proofs.ComputedRuns.{Engine, engine_of}
-use Rattle.rcp_model.proofs.ExamplePlans.{sets_one, position_cell, error_cell, sum_cell, number_cell, sense_value, integrate_value, move_value, motor_plan, count_value, counter_plan_of}
+use Rattle.rcp_model.proofs.ExamplePlans.{sets_one, position_cell, error_cell, sum_cell, number_cell, sense_value, integrate_value, move_value, motor_plan, count_value, counter_plan_voting}
 
 -- a number of a list, and 0 past its end
 abbrev at : List ℤ → ℕ → ℤ
@@ -103,20 +103,20 @@ counter_slot (suc _) sensors cells = cells
 abbrev pub counter_engine : Engine
 counter_engine = record { slot = counter_slot; command = shows_cell number_cell }
 
-module _ (replicas : ℕ) where
+module _ (medians : List ℕ) (replicas : ℕ) where
   counter_slot_is : (slot : ℕ) (sensors cells : List ℤ)
-      → cells_after_slot (counter_plan_of replicas) slot sensors cells ≡ counter_slot slot sensors cells
+      → cells_after_slot (counter_plan_voting medians replicas) slot sensors cells ≡ counter_slot slot sensors cells
   unfolding cells_after_slot
   counter_slot_is zero sensors cells = sets_one_runs (codes "count") number_cell count_value counted sensors cells count_is
   counter_slot_is (suc slot) sensors cells = refl
 
   counter_command_is : (actuator : ℕ) (sensors cells : List ℤ)
-      → actuator_value (slice_index_or (counter_plan_of replicas).actuators actuator no_actuator) sensors cells
+      → actuator_value (slice_index_or (counter_plan_voting medians replicas).actuators actuator no_actuator) sensors cells
       ≡ shows_cell number_cell actuator sensors cells
   counter_command_is zero sensors cells = search (rules, the_lemmas)
   counter_command_is (suc actuator) sensors cells = search (rules, the_lemmas)
 
-  pub counter_engine_is : engine_of (counter_plan_of replicas) ≡ counter_engine
+  pub counter_engine_is : engine_of (counter_plan_voting medians replicas) ≡ counter_engine
   counter_engine_is = λ i. record {
     slot = λ slot sensors cells. counter_slot_is slot sensors cells i;
     command = λ actuator sensors cells. counter_command_is actuator sensors cells i;

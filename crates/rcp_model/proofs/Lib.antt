@@ -21,6 +21,7 @@ mod ExampleEngines
 mod ExampleRuns
 mod MotorExamples
 mod CounterExamples
+mod HeardExamples
 mod IdealExamples
 mod ClockExamples
 mod RowExamples
