@@ -5,7 +5,7 @@ use Rattle.rcp_model.specs.declared.expr.Expr.TheVariants as expr
 use Rattle.rcp_model.specs.declared.expr.Op.{Op}
 use Rattle.task_lang.specs.declared.token.Token.{Token}
 use Rattle.task_lang.specs.Rules.{LeftGrouped, one, more, Compared, single, pair}
-use Rattle.task_lang.specs.Reader.{choose, Reader, bound, onward_to, onward, chained, beside, compared}
+use Rattle.task_lang.specs.ReaderParts.{choose, Reader, bound, onward_to, onward, chained, beside, compared}
 use Rattle.task_lang.proofs.ReadingLaws.{Stops, Reads, SoundAt, Lawful, bound_same, choose_same}
 use Rattle.task_lang.proofs.Combining.{bound-ok, bound_sound, bound_sound_at, sound_under, behind_sound, done_sound}
 

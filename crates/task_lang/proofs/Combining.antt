@@ -1,7 +1,8 @@
 -- Laws of readers that are made of readers: one after the other, behind a token, and under a map.
 use Rattle.std.proofs.Common.{◌≡◌, ℕ, suc, List, [], ◌∷◌, ◌++◌, length, Ok, Err, refl, sym, ap, ◌∙◌, subst, append_assoc}
 use Rattle.task_lang.specs.declared.token.Token.{Token}
-use Rattle.task_lang.specs.Reader.{◌>>=◌, Read, Reader, bound, made}
+use Rattle.rcp_base.specs.Answers.{◌>>=◌}
+use Rattle.task_lang.specs.ReaderParts.{Read, Reader, bound, made}
 use Rattle.task_lang.proofs.ReadingLaws.{Reads, SoundAt, read_again}
 
 pub bound-ok : {X Y : Type 0} (read : Reader X) (next : X → Reader Y) (tokens rest : List Token) (x : X) → read tokens ≡ Ok (x, rest)

@@ -8,9 +8,10 @@ use Rattle.task_lang.specs.declared.token.Token.{Token}
 use Rattle.task_lang.specs.declared.token.Token.TheVariants as token
 use Rattle.task_lang.specs.declared.token.Form.{Form}
 use Rattle.task_lang.specs.declared.token.Form.TheVariants as form
-use Rattle.task_lang.specs.Words.{Scope, or_op, and_op, comparison_op, sum_op, product_op, is_not, is_minus, Part, Sign, Inside, parts_of, tree_of}
+use Rattle.task_lang.specs.Words.{Scope, or_op, and_op, comparison_op, sum_op, product_op, is_not, is_minus}
+use Rattle.task_lang.specs.Forms.{Part, Sign, Inside, parts_of_form, tree_of}
 use Rattle.task_lang.specs.Rules.{LeftGrouped, one, more, Compared, single, pair, plain, prefixed_by, Sequence, leaf, within, Enclosed, enclosed_by, prim_rule, unary_rule, product_rule, sum_rule, inv_rule, conj_rule, expr_rule}
-use Rattle.task_lang.specs.Printing.{sign_of}
+use Rattle.task_lang.specs.Signs.{sign_of}
 use Rattle.task_lang.proofs.TokenSizes.{size_of, sizes_of, sizes_of-append, AllFine, fine_front, fine_back}
 use Rattle.task_lang.proofs.Fits.{fits_more}
 use Rattle.task_lang.proofs.TreeFits.{TreeFits, neg_fits, denied_fits, abs_fits, two_fits, least_fits, greatest_fits, clamp_fits, if_fits}
@@ -112,7 +113,7 @@ module _ (scope whole : Scope) (on : GoesOn scope whole) (inner : Enclosed) (kee
   prim_keeps tokens a fine (leaf t b is) = more_fits whole b (size_of t) (size_of t + 0) (omega arith) (leaf_keeps scope whole on t b is fine.0)
   prim_keeps tokens a fine (within t which is list trees derived) =
       more_fits whole (tree_of which trees) (word_size which + sizes_of list) (size_of t + sizes_of list) (omega (arith, word_is_short t which is))
-      (tree_fits whole which trees (sizes_of list) (sequence_keeps whole inner.expr keep.expr (parts_of which) list trees fine.1 derived))
+      (tree_fits whole which trees (sizes_of list) (sequence_keeps whole inner.expr keep.expr (parts_of_form which) list trees fine.1 derived))
 
   unary_keeps : Keeps whole (unary_rule scope inner)
   unary_keeps tokens a fine (plain list b derived) = prim_keeps list b fine derived

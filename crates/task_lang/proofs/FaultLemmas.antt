@@ -5,7 +5,9 @@ use Rattle.task_lang.specs.declared.token.Token.{Token}
 use Rattle.task_lang.specs.Words.{Scope}
 use Rattle.task_lang.specs.Rules.{expr_rule, enclosed_by}
 use Rattle.task_lang.specs.Faults.{Begins, IsFaultAt, Answers}
-use Rattle.task_lang.specs.Reader.{◌>>=◌, Reader, Read, alone, whole, readers, expr_reader}
+use Rattle.rcp_base.specs.Answers.{◌>>=◌}
+use Rattle.task_lang.specs.ReaderParts.{Reader, Read}
+use Rattle.task_lang.specs.Reader.{alone, whole, readers, expr_reader}
 use Rattle.task_lang.specs.Readings.{ExpressionsAreRead}
 use Rattle.task_lang.proofs.ReadingLaws.{Reads, SoundAt, Lawful}
 use Rattle.task_lang.proofs.Levels.{expr_goes, expr_lawful}

@@ -3,7 +3,8 @@ use Rattle.std.proofs.Common.{◌≡◌, ℕ, suc, ◌+◌, ◌*◌, ◌<◌, �
 use Rattle.rcp_model.specs.declared.expr.Op.{Op}
 use Rattle.task_lang.specs.declared.token.Token.{Token}
 use Rattle.task_lang.specs.declared.token.Token.TheVariants as token
-use Rattle.task_lang.specs.Printing.{Printed, placed, sign_of, level_of, left_place, is_call, leaf, call, infix_text}
+use Rattle.task_lang.specs.Printing.{Printed, placed, leaf, call, infix_text}
+use Rattle.task_lang.specs.Signs.{sign_of, level_of, left_place, is_call}
 use Rattle.task_lang.specs.PrintedTokens.{PrintedTokens, placed_tokens, leaf_token, call_tokens, infix_tokens}
 use Rattle.task_lang.proofs.Spelling.{Spells, SpellsAlways, always_spelled, always_then, between, then_always, infix_spelled, open_spelled, close_spelled, comma_spelled, minus_spelled, not_spelled}
 

@@ -5,8 +5,9 @@ use Rattle.rcp_model.specs.declared.expr.Expr.{Expr}
 use Rattle.rcp_model.specs.declared.expr.Expr.TheVariants as expr
 use Rattle.task_lang.specs.declared.token.Token.{Token}
 use Rattle.task_lang.specs.declared.token.Token.TheVariants as token
-use Rattle.task_lang.specs.Words.{Scope, place_in, named_by, leaf_of}
-use Rattle.task_lang.specs.NameFaults.{is_among, is_in_scope}
+use Rattle.task_lang.specs.Words.{Scope, named_by, leaf_of}
+use Rattle.rcp_base.specs.Answers.{place_in}
+use Rattle.task_lang.specs.NameFaults.{has_name, is_in_scope}
 use Rattle.task_lang.specs.PrintedTokens.{leaf_token, printed_tokens}
 use Rattle.task_lang.proofs.PrintingSteps.{tokens-number}
 use Rattle.task_lang.proofs.NamingLemmas.{GoesOn, place_in_front, IsNamed, unknown, known, name_printed}
@@ -30,13 +31,13 @@ pub record IsKeptLeaf (shown target : Scope) (a : Expr) : Type 0 where
 -- more lets hide no name
 in_scope_still : (scope whole : Scope) → GoesOn scope whole → (name : List ℕ) → is_in_scope scope name ≡ true → is_in_scope whole name ≡ true
 in_scope_still scope whole on name is =
-    ap (λ names. is_among names name || is_among whole.cells name || is_among whole.lets name) on.sensors
-    ∙ (ap (λ names. is_among scope.sensors name || is_among names name || is_among whole.lets name) on.cells
-    ∙ (ap (λ names. is_among scope.sensors name || is_among scope.cells name || is_among names name) on.lets
-    ∙ by_place (is_among scope.sensors name) (is_among scope.cells name) (place_in scope.lets name) refl is))
+    ap (λ names. has_name names name || has_name whole.cells name || has_name whole.lets name) on.sensors
+    ∙ (ap (λ names. has_name scope.sensors name || has_name names name || has_name whole.lets name) on.cells
+    ∙ (ap (λ names. has_name scope.sensors name || has_name scope.cells name || has_name names name) on.lets
+    ∙ by_place (has_name scope.sensors name) (has_name scope.cells name) (place_in scope.lets name) refl is))
   where
     by_place : (sensor cell : Bool) (found : Option ℕ) → place_in scope.lets name ≡ found → (sensor || cell || is_some found) ≡ true
-        → (sensor || cell || is_among (scope.lets ++ on.later) name) ≡ true
+        → (sensor || cell || has_name (scope.lets ++ on.later) name) ≡ true
     by_place true cell found at some = refl
     by_place false true found at some = refl
     by_place false false (Some i) at some = ap is_some (place_in_front scope.lets on.later name i at)

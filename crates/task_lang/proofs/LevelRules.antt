@@ -4,7 +4,8 @@ use Rattle.rcp_model.specs.declared.expr.Expr.{Expr}
 use Rattle.rcp_model.specs.declared.expr.Expr.TheVariants as expr
 use Rattle.rcp_model.specs.declared.expr.Op.{Op}
 use Rattle.task_lang.specs.declared.token.Token.{Token}
-use Rattle.task_lang.specs.Words.{Scope, or_op, and_op, comparison_op, sum_op, product_op, is_minus, is_not, Part, Sign, Inside, parts_of}
+use Rattle.task_lang.specs.Words.{Scope, or_op, and_op, comparison_op, sum_op, product_op, is_minus, is_not}
+use Rattle.task_lang.specs.Forms.{Part, Sign, Inside, parts_of_form}
 use Rattle.task_lang.specs.Rules.{Rule, LeftGrouped, one, more, Compared, single, pair, Prefixed, plain, prefixed_by, Sequence, leaf, within, Enclosed, enclosed_by, prim_rule, unary_rule, product_rule, sum_rule, comparison_rule, inv_rule, conj_rule, expr_rule}
 
 -- the rule of a level by its number, 1 to 8
@@ -84,7 +85,7 @@ module _ (scope : Scope) (more less : Enclosed) (all : EnclosesAll more less) wh
   prim_includes : Includes (prim_rule scope more) (prim_rule scope less)
   prim_includes tokens a (leaf token b is) = leaf token b is
   prim_includes tokens a (within token form is list trees derived) =
-      within token form is list trees (sequence_includes more.expr less.expr all.expr (parts_of form) list trees derived)
+      within token form is list trees (sequence_includes more.expr less.expr all.expr (parts_of_form form) list trees derived)
 
   unary_includes : Includes (unary_rule scope more) (unary_rule scope less)
   unary_includes = prefixed_includes is_minus expr.Neg more.unary (prim_rule scope more) less.unary (prim_rule scope less) all.unary prim_includes

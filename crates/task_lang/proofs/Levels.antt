@@ -9,7 +9,8 @@ use Rattle.task_lang.specs.declared.token.Mark.{Mark}
 use Rattle.task_lang.specs.declared.token.Mark.TheVariants as mark
 use Rattle.task_lang.specs.Words.{Scope, or_op, and_op, comparison_op, sum_op, product_op, is_minus, is_not, token_of_mark}
 use Rattle.task_lang.specs.Rules.{plain, prefixed_by, Enclosed, enclosed_by, prim_rule, unary_rule, product_rule, sum_rule, comparison_rule, inv_rule, conj_rule, expr_rule}
-use Rattle.task_lang.specs.Reader.{Reader, Readers, readers, prim, prim_reader, unary_reader, product_reader, sum_reader, comparison_reader, inv_reader, conj_reader, expr_reader}
+use Rattle.task_lang.specs.ReaderParts.{Reader}
+use Rattle.task_lang.specs.Reader.{Readers, readers, prim, prim_reader, unary_reader, product_reader, sum_reader, comparison_reader, inv_reader, conj_reader, expr_reader}
 use Rattle.task_lang.proofs.ReadingLaws.{Lawful}
 use Rattle.task_lang.proofs.Prefixes.{LawfulInside, prefix_lawful}
 use Rattle.task_lang.proofs.Chains.{goes_on, chain_lawful, chain_filled, compared_lawful, compared_filled}

@@ -15,7 +15,7 @@ use Rattle.std.proofs.lemmas.Bool.Decides.{nat_tests}
 use Rattle.rcp_base.specs.Name.{is_name_byte, is_word, is_name, name_of}
 use Rattle.task_lang.specs.declared.token.Token.{Token}
 use Rattle.task_lang.specs.declared.token.Token.TheVariants.{Bad}
-use Rattle.task_lang.specs.Tokens.{number_of, number_or_word, operators, reserved, written, token_or, token_of}
+use Rattle.task_lang.specs.Tokens.{number_in, number_or_word, operators, reserved, token_in, token_or, token_of}
 
 -- digits are the numerals that std reads
 pub digits_are_numerals : IsNumeralModel (λ ds. list_all is_ascii_digit ds ≡ true) (digits_value 10)
@@ -23,13 +23,13 @@ digits_are_numerals = numerals_by_value _ (search rules)
 
 -- what a reading of digits answers
 read_by_cases : {E : Type 0} (text : List ℕ) (read : Result ℤ E) → list_all is_ascii_digit text ≡ true
-    → OkIff read ((0 < length text) × (digits_value 10 text < 2 ^ 63)) (pos (digits_value 10 text)) → result_ok read ≡ number_of text
+    → OkIff read ((0 < length text) × (digits_value 10 text < 2 ^ 63)) (pos (digits_value 10 text)) → result_ok read ≡ number_in text
 read_by_cases text (Ok n) digits is = grind (arith, common_steps)
 read_by_cases text (Err fault) digits is = grind (arith, common_steps)
 
 -- a text of digits is read as the number that it is
 pub number_of_parsed : {E : Type 0} (text : List ℕ) (read : Result ℤ E) → list_all is_ascii_digit text ≡ true
-    → ParsesSigned w64 10 text read → result_ok read ≡ number_of text
+    → ParsesSigned w64 10 text read → result_ok read ≡ number_in text
 number_of_parsed text read digits is =
     read_by_cases text read digits (parse_signed_digits digits_are_numerals w64 text read is digits)
 
@@ -81,14 +81,14 @@ nat_lt_below : (b : ℕ) → nat_lt b 128 ≡ true → b < 128
 nat_lt_below b h = grind (arith, nat_tests)
 
 -- no such table has a text that is not UTF-8
-unwritten : (table : List (List ℕ × Token)) (lexeme : List ℕ) → ¬ (IsUtf8 lexeme) → is_ascii_table table ≡ true → written table lexeme ≡ None
+unwritten : (table : List (List ℕ × Token)) (lexeme : List ℕ) → ¬ (IsUtf8 lexeme) → is_ascii_table table ≡ true → token_in table lexeme ≡ None
 unwritten [] lexeme broken ascii = refl
 unwritten (row ∷ rows) lexeme broken ascii =
     let here : list_all (λ b. nat_lt b 128) row.0 ≡ true = grind arith in
     let rest : is_ascii_table rows ≡ true = grind arith in
     let other : bytes_eq lexeme row.0 ≡ false =
     unlike lexeme row.0 broken (ascii_by_test (λ b. nat_lt b 128) nat_lt_below row.0 here) in
-    ap (λ same. cond same (Some row.1) (written rows lexeme)) other ∙ unwritten rows lexeme broken rest
+    ap (λ same. cond same (Some row.1) (token_in rows lexeme)) other ∙ unwritten rows lexeme broken rest
 
 -- a text that is not UTF-8 is no token
 pub token_of_broken : (lexeme : List ℕ) → ¬ (IsUtf8 lexeme) → Bad ≡ token_of lexeme
@@ -97,8 +97,8 @@ token_of_broken lexeme broken =
     let digits : list_all is_ascii_digit lexeme ≡ false =
     false_if_not _ (λ h. broken (IsUtf8-from_ascii lexeme (ascii_by_test is_ascii_digit digit_below lexeme h))) in
     let name : is_name lexeme ≡ false = false_if_not _ (λ h. broken (IsUtf8-from_ascii lexeme (name_ascii lexeme h))) in
-    let operator : written operators lexeme ≡ None = unwritten operators lexeme broken refl in
-    let word : written reserved lexeme ≡ None = unwritten reserved lexeme broken refl in
-    let neither : number_or_word (number_of lexeme) (name_of lexeme) ≡ Bad = grind (arith, common_steps) in
-    sym (ap (λ found. token_or found (written reserved lexeme) (number_or_word (number_of lexeme) (name_of lexeme))) operator
-    ∙ (ap (λ found. token_or None found (number_or_word (number_of lexeme) (name_of lexeme))) word ∙ neither))
+    let operator : token_in operators lexeme ≡ None = unwritten operators lexeme broken refl in
+    let word : token_in reserved lexeme ≡ None = unwritten reserved lexeme broken refl in
+    let neither : number_or_word (number_in lexeme) (name_of lexeme) ≡ Bad = grind (arith, common_steps) in
+    sym (ap (λ found. token_or found (token_in reserved lexeme) (number_or_word (number_in lexeme) (name_of lexeme))) operator
+    ∙ (ap (λ found. token_or None found (number_or_word (number_in lexeme) (name_of lexeme))) word ∙ neither))

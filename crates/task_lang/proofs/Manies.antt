@@ -1,8 +1,10 @@
 -- One after the other, to the end of the tokens, each under what those before it left.
 use Rattle.std.proofs.Common.{◌≡◌, ℕ, zero, suc, ◌+◌, ◌<◌, List, [], ◌∷◌, ◌++◌, length, Bool, true, Ok, refl, sym, ap, ◌∙◌, subst, arith, append-nil, length-append}
 use Rattle.task_lang.specs.declared.token.Token.{Token}
-use Rattle.task_lang.specs.Reader.{◌>>=◌, Reader, bound, made}
-use Rattle.task_lang.specs.Statements.{Many, last, next, then_more, many_below, many}
+use Rattle.rcp_base.specs.Answers.{◌>>=◌}
+use Rattle.task_lang.specs.ReaderParts.{Reader, bound, made}
+use Rattle.task_lang.specs.Statements.{Many, last, next}
+use Rattle.task_lang.specs.StatementReaders.{then_more, many_below, many}
 use Rattle.task_lang.proofs.ReadingLaws.{Stops, Reads, SoundAt, Lawful, bound_same}
 use Rattle.task_lang.proofs.Combining.{bound-ok, bound_sound_at, alike_sound, made_sound, done_sound}
 use Rattle.task_lang.proofs.Sequences.{never, stops_never}

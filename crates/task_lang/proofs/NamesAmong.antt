@@ -6,13 +6,13 @@ use Rattle.std.specs.Str.{bytes_eq}
 use Rattle.std.proofs.lemmas.Bool.{ltb-false}
 use Rattle.std.proofs.lemmas.List.Sums.{prefix_len_passes}
 use Rattle.std.proofs.lemmas.Slice.Eq.{bytes_eq-Decides}
-use Rattle.task_lang.specs.Words.{place_in}
-use Rattle.task_lang.specs.NameFaults.{is_among}
+use Rattle.rcp_base.specs.Answers.{place_in}
+use Rattle.task_lang.specs.NameFaults.{has_name}
 use Rattle.task_lang.specs.Printing.{name_at}
 use Rattle.task_lang.proofs.NamingLemmas.{name_at_place, place_within}
 
 -- a name that is among none is another than each
-pub none_among : (names : List (List ℕ)) (name : List ℕ) → is_among names name ≡ false → All (λ other. other ≢ name) names
+pub none_among : (names : List (List ℕ)) (name : List ℕ) → has_name names name ≡ false → All (λ other. other ≢ name) names
 none_among names name none k d below same = by_case (nat_lt (prefix_len test names) (length names)) refl none
   where
     test : List ℕ → Bool
@@ -30,7 +30,7 @@ pub record IsCellOf (cells : List (List ℕ)) (name : List ℕ) (cell : ℕ) : T
   pub there : cell < length cells
   pub named : name_at cells cell ≡ name
 
-pub cell_of_name : (cells : List (List ℕ)) (name : List ℕ) → is_among cells name ≡ true → IsCellOf cells name (unwrap_or (place_in cells name) 0)
+pub cell_of_name : (cells : List (List ℕ)) (name : List ℕ) → has_name cells name ≡ true → IsCellOf cells name (unwrap_or (place_in cells name) 0)
 cell_of_name cells name among = by_place (place_in cells name) refl among
   where
     by_place : (found : Option ℕ) → place_in cells name ≡ found → is_some found ≡ true → IsCellOf cells name (unwrap_or found 0)

@@ -1,19 +1,19 @@
 -- What a name stands for is printed as that name, and stands for the same where more lets are in scope.
-use Rattle.std.proofs.Common.{◌≡◌, ℕ, ◌<◌, List, [], ◌++◌, length, Option, Some, None, Bool, true, false, cond, refl, sym, ap, ◌∙◌, arith}
+use Rattle.std.proofs.Common.{◌≡◌, ℕ, ◌<◌, List, [], ◌++◌, length, Option, Some, None, Bool, true, false, cond, refl, sym, ap, ◌∙◌, arith, length-append, ◌+◌}
 use Rattle.std.specs.Prelude.{is_some, not, nat_lt, ◌||◌}
 use Rattle.std.specs.List.{prefix_len}
 use Rattle.std.proofs.lemmas.List.Folds.{prefix_len-append}
 use Rattle.std.proofs.lemmas.Option.{cond_some}
 use Rattle.std.proofs.lemmas.Bool.{ltb-true, lt-ltb}
-use Rattle.std.proofs.Common.{length-append, ◌+◌}
 use Rattle.std.specs.Str.{bytes_eq}
 use Rattle.std.proofs.lemmas.List.Quantifiers.{position-Some}
 use Rattle.std.proofs.lemmas.Slice.Eq.{bytes_eq-Decides}
 use Rattle.rcp_model.specs.declared.expr.Expr.{Expr}
 use Rattle.rcp_model.specs.declared.expr.Expr.TheVariants as expr
 use Rattle.task_lang.specs.declared.token.Token.TheVariants as token
-use Rattle.task_lang.specs.Words.{Scope, place_in, stand_in, first_of, named_by}
-use Rattle.task_lang.specs.NameFaults.{is_among, is_in_scope}
+use Rattle.task_lang.specs.Words.{Scope, stand_in, first_of, named_by}
+use Rattle.rcp_base.specs.Answers.{place_in}
+use Rattle.task_lang.specs.NameFaults.{has_name, is_in_scope}
 use Rattle.task_lang.specs.Printing.{leaf, name_at, printed}
 use Rattle.task_lang.specs.PrintedTokens.{leaf_token, printed_tokens}
 use Rattle.task_lang.proofs.PrintingSteps.{printed-sensor, printed-cell, printed-let, tokens-sensor, tokens-cell, tokens-let}
@@ -62,7 +62,7 @@ name_printed whole scope on name = by (place_in scope.sensors name) (place_in sc
     by (Some i) c l at_s at_c at_l =
         let there : place_in whole.sensors name ≡ Some i = ap (λ names. place_in names name) on.sensors ∙ at_s in
         let spelled : name_at whole.sensors i ≡ name = name_at_place whole.sensors name i there in
-        known (expr.Sensor i) (ap (λ o. is_some o || is_among scope.cells name || is_among scope.lets name) at_s)
+        known (expr.Sensor i) (ap (λ o. is_some o || has_name scope.cells name || has_name scope.lets name) at_s)
         (printed-sensor whole i ∙ ap leaf spelled) (tokens-sensor whole i ∙ ap (λ w. leaf_token (token.Word w)) spelled)
         (ap (λ o. first_of o (place_in whole.cells name) (place_in whole.lets name)) there)
     by None (Some i) l at_s at_c at_l =
@@ -70,7 +70,7 @@ name_printed whole scope on name = by (place_in scope.sensors name) (place_in sc
         let there : place_in whole.cells name ≡ Some i = ap (λ names. place_in names name) on.cells ∙ at_c in
         let spelled : name_at whole.cells i ≡ name = name_at_place whole.cells name i there in
         known (expr.Cell i)
-        (ap (λ o. is_some o || is_among scope.cells name || is_among scope.lets name) at_s ∙ ap (λ o. is_some o || is_among scope.lets name) at_c)
+        (ap (λ o. is_some o || has_name scope.cells name || has_name scope.lets name) at_s ∙ ap (λ o. is_some o || has_name scope.lets name) at_c)
         (printed-cell whole i ∙ ap leaf spelled) (tokens-cell whole i ∙ ap (λ w. leaf_token (token.Word w)) spelled)
         (ap (λ o. first_of o (place_in whole.cells name) (place_in whole.lets name)) none ∙ ap (λ o. first_of None o (place_in whole.lets name)) there)
     by None None (Some i) at_s at_c at_l =
@@ -79,10 +79,10 @@ name_printed whole scope on name = by (place_in scope.sensors name) (place_in sc
         let there : place_in whole.lets name ≡ Some i = ap (λ names. place_in names name) on.lets ∙ place_in_front scope.lets on.later name i at_l in
         let spelled : name_at whole.lets i ≡ name = name_at_place whole.lets name i there in
         known (expr.Let i)
-        (ap (λ o. is_some o || is_among scope.cells name || is_among scope.lets name) at_s ∙ (ap (λ o. is_some o || is_among scope.lets name) at_c ∙ ap is_some at_l))
+        (ap (λ o. is_some o || has_name scope.cells name || has_name scope.lets name) at_s ∙ (ap (λ o. is_some o || has_name scope.lets name) at_c ∙ ap is_some at_l))
         (printed-let whole i ∙ ap leaf spelled) (tokens-let whole i ∙ ap (λ w. leaf_token (token.Word w)) spelled)
         (ap (λ o. first_of o (place_in whole.cells name) (place_in whole.lets name)) no_sensor
         ∙ (ap (λ o. first_of None o (place_in whole.lets name)) no_cell ∙ ap (λ o. first_of None None o) there))
     by None None None at_s at_c at_l =
         unknown
-        (ap (λ o. is_some o || is_among scope.cells name || is_among scope.lets name) at_s ∙ (ap (λ o. is_some o || is_among scope.lets name) at_c ∙ ap is_some at_l))
+        (ap (λ o. is_some o || has_name scope.cells name || has_name scope.lets name) at_s ∙ (ap (λ o. is_some o || has_name scope.lets name) at_c ∙ ap is_some at_l))

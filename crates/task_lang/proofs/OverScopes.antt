@@ -8,7 +8,8 @@ use Rattle.rcp_model.specs.Plan.{is_over}
 use Rattle.rcp_model.proofs.ExprLaws.{number_over, sensor_over, cell_over, let_over, neg_over, not_over, abs_over, two_over, clamp_over, if_over}
 use Rattle.task_lang.specs.declared.token.Token.{Token}
 use Rattle.task_lang.specs.declared.token.Token.TheVariants as token
-use Rattle.task_lang.specs.Words.{Scope, place_in, first_of, named_by, leaf_of}
+use Rattle.task_lang.specs.Words.{Scope, first_of, named_by, leaf_of}
+use Rattle.rcp_base.specs.Answers.{place_in}
 use Rattle.task_lang.specs.Rules.{enclosed_by, expr_rule}
 use Rattle.task_lang.proofs.NamingLemmas.{place_within}
 use Rattle.task_lang.proofs.TokenSizes.{IsFine, AllFine}

@@ -6,7 +6,7 @@ use Rattle.std.proofs.lemmas.Bool.{lt-ltb, le-ltb}
 use Rattle.task_lang.specs.Words.{Scope}
 use Rattle.rcp_model.specs.declared.task.LetRow.{LetRow}
 use Rattle.rcp_model.specs.declared.task.SetRow.{SetRow}
-use Rattle.task_lang.specs.Printing.{placed, printed, spaced, let_text, set_text}
+use Rattle.task_lang.specs.Printing.{placed, printed, with_spaces, let_text, set_text}
 use Rattle.rcp_model.specs.declared.expr.Expr.{Expr}
 
 -- a tree whose level is below its place
@@ -40,20 +40,20 @@ front_same (x ∷ front) (y ∷ other) last byte is =
     ap (λ b. b ∷ front) (sym first) ∙ ap (λ list. y ∷ list) rest
 
 -- statements with a space behind each are those with a space between them, and one more
-one_more_space : (text : List ℕ) (texts : List (List ℕ)) → flat_map (λ text. text ++ codes " ") (text ∷ texts) ≡ spaced (text ∷ texts) ++ codes " "
+one_more_space : (text : List ℕ) (texts : List (List ℕ)) → flat_map (λ text. text ++ codes " ") (text ∷ texts) ≡ with_spaces (text ∷ texts) ++ codes " "
 one_more_space text [] = append-nil (text ++ codes " ")
 one_more_space text (other ∷ texts) =
     ap (λ list. (text ++ codes " ") ++ list) (one_more_space other texts)
-    ∙ sym (append_assoc (text ++ codes " ") (spaced (other ∷ texts)) (codes " "))
+    ∙ sym (append_assoc (text ++ codes " ") (with_spaces (other ∷ texts)) (codes " "))
 
 -- statements with a space behind each, without the last space
 last_space_dropped : (texts : List (List ℕ)) (last : ℕ) (front : List ℕ) → flat_map (λ text. text ++ codes " ") texts ≡ front ++ last ∷ []
-    → front ≡ spaced texts
+    → front ≡ with_spaces texts
 last_space_dropped [] last front is =
     let size : 0 ≡ length (front ++ last ∷ []) = ap length is in
     let more : length (front ++ last ∷ []) ≡ length front + 1 = length-append front (last ∷ []) in
     absurd (omega (arith, size, more))
-last_space_dropped (text ∷ texts) last front is = front_same front (spaced (text ∷ texts)) last 32 (sym (one_more_space text texts) ∙ is)
+last_space_dropped (text ∷ texts) last front is = front_same front (with_spaces (text ∷ texts)) last 32 (sym (one_more_space text texts) ∙ is)
 
 -- rows of two kinds, each with a space behind it
 pub rows_spaced : {A B : Type 0} (f : A → List ℕ) (g : B → List ℕ) (xs : List A) (ys : List B)
@@ -66,11 +66,11 @@ rows_spaced f g (x ∷ xs) ys =
 
 -- what is left when the last byte was taken away
 pub last_taken : (result : Option ℕ) (old new : List ℕ) (texts : List (List ℕ)) → old ≡ flat_map (λ text. text ++ codes " ") texts
-    → MatchOption result ((old ≡ []) × (new ≡ [])) (λ last. old ≡ new ++ last ∷ []) → new ≡ spaced texts
+    → MatchOption result ((old ≡ []) × (new ≡ [])) (λ last. old ≡ new ++ last ∷ []) → new ≡ with_spaces texts
 last_taken None old new [] is gone = gone.1
 last_taken None old new (text ∷ texts) is gone =
-    let none : length (spaced (text ∷ texts) ++ codes " ") ≡ 0 = ap length (sym (one_more_space text texts) ∙ (sym is ∙ gone.0)) in
-    let more : length (spaced (text ∷ texts) ++ codes " ") ≡ length (spaced (text ∷ texts)) + 1 = length-append (spaced (text ∷ texts)) (codes " ") in
+    let none : length (with_spaces (text ∷ texts) ++ codes " ") ≡ 0 = ap length (sym (one_more_space text texts) ∙ (sym is ∙ gone.0)) in
+    let more : length (with_spaces (text ∷ texts) ++ codes " ") ≡ length (with_spaces (text ∷ texts)) + 1 = length-append (with_spaces (text ∷ texts)) (codes " ") in
     absurd (omega (arith, none, more))
 last_taken (Some last) old new texts is gone = last_space_dropped texts last new (sym is ∙ gone)
 
@@ -79,11 +79,11 @@ pub body_added : (labels scope : Scope) → labels ≡ scope → (lets : List Le
     → then_lets ≡ start ++ flat_map (λ row. let_text labels row ++ codes " ") lets
     → then_sets ≡ then_lets ++ flat_map (λ row. set_text labels row ++ codes " ") sets
     → MatchOption result ((then_sets ≡ []) × (new ≡ [])) (λ last. then_sets ≡ new ++ last ∷ [])
-    → new ≡ spaced (map (let_text scope) lets ++ map (set_text scope) sets)
+    → new ≡ with_spaces (map (let_text scope) lets ++ map (set_text scope) sets)
 body_added labels scope same lets sets result start then_lets then_sets new empty first second gone =
     let rows : Scope → List (List ℕ) = λ s. map (let_text s) lets ++ map (set_text s) sets in
     let all : then_sets ≡ flat_map (λ text. text ++ codes " ") (rows labels) =
     second
     ∙ (ap (λ list. list ++ flat_map (λ row. set_text labels row ++ codes " ") sets) (first ∙ ap (λ list. list ++ flat_map (λ row. let_text labels row ++ codes " ") lets) empty)
     ∙ rows_spaced (let_text labels) (set_text labels) lets sets) in
-    last_taken result then_sets new (rows labels) all gone ∙ ap (λ s. spaced (rows s)) same
+    last_taken result then_sets new (rows labels) all gone ∙ ap (λ s. with_spaces (rows s)) same

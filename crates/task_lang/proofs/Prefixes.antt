@@ -2,7 +2,8 @@
 use Rattle.std.proofs.Common.{◌≡◌, suc, List, [], ◌∷◌, ◌++◌, length, Bool, true, false, cond, Option, Some, None, Ok, Err, refl, sym, ap, ◌∙◌}
 use Rattle.task_lang.specs.declared.token.Token.{Token}
 use Rattle.task_lang.specs.Rules.{Prefixed, plain, prefixed_by}
-use Rattle.task_lang.specs.Reader.{◌>>=◌, Reader, enclosed, made, prefixed}
+use Rattle.rcp_base.specs.Answers.{◌>>=◌}
+use Rattle.task_lang.specs.ReaderParts.{Reader, enclosed, made, prefixed}
 use Rattle.task_lang.proofs.ReadingLaws.{Stops, SoundAt, Lawful}
 use Rattle.task_lang.proofs.Combining.{sound_under, alike_sound, behind_sound, made_sound, stop_sound}
 

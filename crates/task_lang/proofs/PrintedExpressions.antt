@@ -8,7 +8,8 @@ use Rattle.rcp_model.specs.declared.expr.Op.TheVariants as op
 use Rattle.task_lang.specs.declared.token.Token.{Token}
 use Rattle.task_lang.specs.declared.token.Token.TheVariants as token
 use Rattle.task_lang.specs.declared.token.Form.TheVariants as form
-use Rattle.task_lang.specs.Words.{Scope, leaf_of, parts_of}
+use Rattle.task_lang.specs.Words.{Scope, leaf_of}
+use Rattle.task_lang.specs.Forms.{parts_of_form}
 use Rattle.task_lang.specs.Rules.{one, more, single, pair, plain, prefixed_by, leaf, within, enclosed_by, prim_rule, unary_rule, product_rule, sum_rule, comparison_rule, inv_rule, conj_rule, expr_rule}
 use Rattle.task_lang.specs.PrintedTokens.{PrintedTokens, placed_tokens, sign_token, leaf_token, call_tokens, two_tokens, printed_tokens, expr_tokens}
 use Rattle.task_lang.proofs.LevelRules.{rule_at, looser, deeper}
@@ -137,7 +138,7 @@ module _ (scope shown target : Scope) (leaves : (first : Token) (a : Expr) → l
       stays shown target n 8 a (leaf_token kept.first) kept.printed (omega arith) (leaf kept.first a kept.stands)
   prim_kept (within token form is tokens trees derived) =
       form_holds (KeptWithin shown target n 1) (Kept shown target n 8) forms_keep form trees
-      (sequence_holds (enclosed_by scope n).expr (KeptWithin shown target n 1) inside.expr (parts_of form) tokens trees derived)
+      (sequence_holds (enclosed_by scope n).expr (KeptWithin shown target n 1) inside.expr (parts_of_form form) tokens trees derived)
 
   unary_kept : {tokens : List Token} {a : Expr} → unary_rule scope (enclosed_by scope n) tokens a → Kept shown target n 7 a
   unary_kept (plain tokens a derived) = lower shown target n 8 7 a (omega arith) (prim_kept derived)

@@ -5,7 +5,8 @@ use Rattle.rcp_model.specs.declared.expr.Op.{Op}
 use Rattle.rcp_model.specs.declared.expr.Op.TheVariants as op
 use Rattle.task_lang.specs.declared.token.Token.{Token}
 use Rattle.task_lang.specs.declared.token.Token.TheVariants as token
-use Rattle.task_lang.specs.Words.{or_op, and_op, comparison_op, sum_op, product_op, one_argument, two_arguments, three_arguments}
+use Rattle.task_lang.specs.Words.{or_op, and_op, comparison_op, sum_op, product_op}
+use Rattle.task_lang.specs.Forms.{one_argument, two_arguments, three_arguments}
 use Rattle.task_lang.specs.Rules.{Sequence}
 use Rattle.task_lang.specs.PrintedTokens.{PrintedTokens, placed_tokens, sign_token, two_tokens}
 

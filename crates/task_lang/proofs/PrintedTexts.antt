@@ -5,7 +5,8 @@ use Rattle.std.specs.Prelude.{flat_map, unwrap_or}
 use Rattle.rcp_model.specs.declared.task.Task.{Task}
 use Rattle.task_lang.specs.declared.token.Token.{Token}
 use Rattle.task_lang.specs.Tokens.{tokens_of}
-use Rattle.task_lang.specs.Words.{Scope, place_in}
+use Rattle.task_lang.specs.Words.{Scope}
+use Rattle.rcp_base.specs.Answers.{place_in}
 use Rattle.task_lang.specs.Rules.{expr_rule, enclosed_by}
 use Rattle.task_lang.specs.Statements.{Statement, Let, Set, IsStatement, Many, last, next, scope_of, lets_behind, let_rows, set_rows}
 use Rattle.task_lang.specs.Printing.{let_names, let_text, set_text, task_text}

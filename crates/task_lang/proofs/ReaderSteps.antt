@@ -11,10 +11,13 @@ use Rattle.task_lang.specs.declared.reader.ReadFault.TheVariants as fault
 use Rattle.task_lang.specs.Faults.{Answers}
 use Rattle.task_lang.proofs.FaultLemmas.{expressions_answer}
 use Rattle.task_lang.specs.declared.reader.Level.TheVariants as level
-use Rattle.task_lang.specs.Words.{Scope, leaf_of, form_of, or_op, and_op, comparison_op, sum_op, product_op}
+use Rattle.task_lang.specs.Words.{Scope, leaf_of, or_op, and_op, comparison_op, sum_op, product_op}
+use Rattle.task_lang.specs.Forms.{form_of_token}
 use Rattle.task_lang.specs.Rules.{enclosed_by, prim_rule, unary_rule, product_rule, sum_rule, comparison_rule, inv_rule, conj_rule, expr_rule}
-use Rattle.task_lang.specs.Reader.{◌>>=◌, choose, Reader, Read, enclosed, made, chained, onward, compared, prefixed, prim, formed, whole, readers, prim_reader, unary_reader, product_reader, sum_reader, comparison_reader, inv_reader, conj_reader, expr_reader}
-use Rattle.task_lang.specs.Levels.{Follows, IsRead, level_reader, inner_reader, below, operator_at, IsChain, HasPrefix, is_prefix, with_prefix}
+use Rattle.rcp_base.specs.Answers.{◌>>=◌}
+use Rattle.task_lang.specs.ReaderParts.{choose, Reader, Read, enclosed, made, chained, onward, compared, prefixed}
+use Rattle.task_lang.specs.Reader.{prim, formed, whole, readers, prim_reader, unary_reader, product_reader, sum_reader, comparison_reader, inv_reader, conj_reader, expr_reader}
+use Rattle.task_lang.specs.inner.Levels.{Follows, IsRead, level_reader, inner_reader, below, operator_at, IsChain, HasPrefix, is_prefix, with_prefix}
 use Rattle.task_lang.proofs.ReadingLaws.{Reads, SoundAt, Lawful}
 use Rattle.task_lang.proofs.Combining.{bound-ok}
 use Rattle.task_lang.proofs.Chains.{onward-some}
@@ -141,12 +144,12 @@ module _ (is : Token → Bool) (make : Expr → Expr) (read : Reader Expr) where
       ∙ ap (λ y. y >>= made make) reads)
 
 -- a form within one less
-pub enclosing : (scope : Scope) (n : ℕ) (tokens behind : List Token) (token : Token) (form : Form) → tokens ≡ token ∷ behind → None ≡ leaf_of scope token → Some form ≡ form_of token → n ≢ 0
+pub enclosing : (scope : Scope) (n : ℕ) (tokens behind : List Token) (token : Token) (form : Form) → tokens ≡ token ∷ behind → None ≡ leaf_of scope token → Some form ≡ form_of_token token → n ≢ 0
     → formed form (level_reader level.Or scope (n - 1)) behind ≡ prim scope (inner_reader level.Or scope n) tokens
 enclosing scope n tokens behind token form cut no_leaf is some =
     let inner = inner_reader level.Or scope n in
     let step : prim scope inner (token ∷ behind) ≡ enclosed inner (formed form) (suc (length behind)) behind =
-    ap (λ found. choose found (choose (form_of token) (Err (suc (length behind))) (λ form. enclosed inner (formed form) (suc (length behind)) behind)) (λ a. Ok (a, behind))) (sym no_leaf)
+    ap (λ found. choose found (choose (form_of_token token) (Err (suc (length behind))) (λ form. enclosed inner (formed form) (suc (length behind)) behind)) (λ a. Ok (a, behind))) (sym no_leaf)
     ∙ ap (λ found. choose found (Err (suc (length behind))) (λ form. enclosed inner (formed form) (suc (length behind)) behind)) (sym is) in
     sym (ap (prim scope inner) cut ∙ (step ∙ ap (λ inner. enclosed inner (formed form) (suc (length behind)) behind) (inner_reader-less level.Or scope n some)))
 
@@ -189,6 +192,22 @@ level_reader-prim scope (suc n) = refl
 pub at_level : {X : Type 0} (view : X → Expr × List Token) (result : Result X ReadFault) (at : Level) (scope : Scope) (n : ℕ) (read : Reader Expr) (tokens : List Token)
     → read ≡ level_reader at scope n → Follows view result (read tokens) → Follows view result (level_reader at scope n tokens)
 at_level view result at scope n read tokens is = subst (λ r. Follows view result (r tokens)) is
+
+-- the same of a level whose operands are grouped to the left
+pub at_chain : {X : Type 0} (view : X → Expr × List Token) (result : Result X ReadFault) (at : Level) (scope : Scope) (n : ℕ) (tokens : List Token)
+    → IsChain at → Follows view result (chained (operator_at at) (level_reader (below at) scope n) tokens)
+    → Follows view result (level_reader at scope n tokens)
+at_chain view result at scope n tokens chain =
+    at_level view result at scope n (chained (operator_at at) (level_reader (below at) scope n)) tokens (level_reader-chain at scope n chain)
+
+-- and of one where a prefix may stand
+pub at_prefix : {X : Type 0} (view : X → Expr × List Token) (result : Result X ReadFault) (at : Level) (scope : Scope) (n : ℕ) (tokens : List Token)
+    → HasPrefix at
+    → Follows view result (prefixed (is_prefix at) (with_prefix at) (inner_reader at scope n) (level_reader (below at) scope n) tokens)
+    → Follows view result (level_reader at scope n tokens)
+at_prefix view result at scope n tokens has =
+    at_level view result at scope n (prefixed (is_prefix at) (with_prefix at) (inner_reader at scope n) (level_reader (below at) scope n)) tokens
+    (level_reader-prefixed at scope n has)
 
 -- what follows the reader of whole lists is right by the grammar
 scope_read : (scope : Scope) (n : ℕ) (tokens : List Token) (result : Result Expr ReadFault)

@@ -1,7 +1,8 @@
 -- What a reader keeps with its rule.
 use Rattle.std.proofs.Common.{◌≡◌, ℕ, suc, List, [], ◌∷◌, ◌++◌, length, Bool, false, Option, Some, None, Ok, Err, refl}
 use Rattle.task_lang.specs.declared.token.Token.{Token}
-use Rattle.task_lang.specs.Reader.{◌>>=◌, choose, Read, Reader, bound}
+use Rattle.rcp_base.specs.Answers.{◌>>=◌}
+use Rattle.task_lang.specs.ReaderParts.{choose, Read, Reader, bound}
 
 -- the tokens do not go on with what was read
 abbrev pub Stops : (Token → Bool) → List Token → Type 0

@@ -5,7 +5,7 @@ use Rattle.task_lang.specs.declared.token.Token.{Token}
 use Rattle.task_lang.specs.Words.{Scope, leaf_of}
 use Rattle.task_lang.specs.Rules.{IsExpr}
 use Rattle.task_lang.specs.Statements.{Statement, Let, Set, IsStatement, Many, last, next, scope_of, lets_behind, let_rows}
-use Rattle.task_lang.specs.NameFaults.{is_among}
+use Rattle.task_lang.specs.NameFaults.{has_name}
 use Rattle.task_lang.specs.RightNames.{IsKnownExpr, Earlier, IsRightTarget, sets_behind, earlier_behind, IsRightStatement}
 use Rattle.task_lang.specs.Printing.{let_names}
 use Rattle.task_lang.specs.PrintedTokens.{expr_tokens}
@@ -51,13 +51,13 @@ module _ (sensors cells : List (List ℕ)) where
 
   one_tree : (lets : List (List ℕ)) (tokens : List Token) (statement : Statement) → IsStatement (IsKnownExpr (over lets)) tokens statement → IsTree lets (value_of statement)
   one_tree lets tokens statement one =
-      let written = statement_written (IsKnownExpr (over lets)) tokens statement one in
-      record { before = lets; later = []; cut = sym (append-nil lets); tokens = written.inside; derived = written.derived.0 }
+      let token_in = statement_written (IsKnownExpr (over lets)) tokens statement one in
+      record { before = lets; later = []; cut = sym (append-nil lets); tokens = token_in.inside; derived = token_in.derived.0 }
 
   pub all_right : {earlier : Earlier} {tokens : List Token} {statements : List Statement} → Many (IsRightStatement sensors cells) earlier_behind earlier tokens statements
       → AreRight earlier.lets earlier.set statements
-  all_right (last earlier tokens statement right) = (one_tree earlier.lets tokens statement right.written, right.target, tt)
-  all_right (next earlier tokens statement right behind others many) = (one_tree earlier.lets tokens statement right.written, right.target, all_right many)
+  all_right (last earlier tokens statement right) = (one_tree earlier.lets tokens statement right.token_in, right.target, tt)
+  all_right (next earlier tokens statement right behind others many) = (one_tree earlier.lets tokens statement right.token_in, right.target, all_right many)
 
   -- more lets harm no tree
   wider : (lets more : List (List ℕ)) (value : Expr) → IsTree lets value → IsTree (lets ++ more) value
@@ -70,7 +70,7 @@ module _ (sensors cells : List (List ℕ)) where
   }
 
   -- a set may stand behind the lets behind it
-  set_moved : (name : List ℕ) (value : Expr) (list sets : List Statement) (lets set : List (List ℕ)) → IsTree lets value → is_among cells name ≡ true → is_among set name ≡ false
+  set_moved : (name : List ℕ) (value : Expr) (list sets : List Statement) (lets set : List (List ℕ)) → IsTree lets value → has_name cells name ≡ true → has_name set name ≡ false
       → AreRight lets (set ++ name ∷ []) (lets_of list ++ sets) → AreRight lets set (lets_of list ++ Set name value ∷ sets)
   set_moved name value [] sets lets set tree cell new right = (tree, (cell, new), right)
   set_moved name value (Let other first ∷ list) sets lets set tree cell new right =
@@ -109,7 +109,7 @@ module _ (sensors cells : List (List ℕ)) where
       → IsRightStatement sensors cells (record { lets = lets; set = set }) (statement_tokens statement (expr_tokens (over whole) (value_of statement))) statement
   one_printed lets set whole statement others is right =
       record {
-        written = written_derived (IsKnownExpr (over lets)) statement (expr_tokens (over whole) (value_of statement))
+        token_in = written_derived (IsKnownExpr (over lets)) statement (expr_tokens (over whole) (value_of statement))
             (value_printed lets (let_names (let_rows (statement ∷ others))) whole (value_of statement) is right.0);
         target = right.1;
       }
@@ -138,11 +138,11 @@ module _ (sensors cells : List (List ℕ)) where
   -- right statements are statements
   plainly : (lets : List (List ℕ)) (tokens : List Token) (statement : Statement) → IsStatement (IsKnownExpr (over lets)) tokens statement → IsStatement (IsExpr (over lets)) tokens statement
   plainly lets tokens statement one =
-      let written = statement_written (IsKnownExpr (over lets)) tokens statement one in
-      subst (λ list. IsStatement (IsExpr (over lets)) list statement) (sym written.cut) (written_derived (IsExpr (over lets)) statement written.inside written.derived.0)
+      let token_in = statement_written (IsKnownExpr (over lets)) tokens statement one in
+      subst (λ list. IsStatement (IsExpr (over lets)) list statement) (sym token_in.cut) (written_derived (IsExpr (over lets)) statement token_in.inside token_in.derived.0)
 
   pub right_body : {earlier : Earlier} {tokens : List Token} {statements : List Statement} → Many (IsRightStatement sensors cells) earlier_behind earlier tokens statements
       → Many (λ lets. IsStatement (IsExpr (over lets))) lets_behind earlier.lets tokens statements
-  right_body (last earlier tokens statement right) = last earlier.lets tokens statement (plainly earlier.lets tokens statement right.written)
+  right_body (last earlier tokens statement right) = last earlier.lets tokens statement (plainly earlier.lets tokens statement right.token_in)
   right_body (next earlier tokens statement right behind others many) =
-      next earlier.lets tokens statement (plainly earlier.lets tokens statement right.written) behind others (right_body many)
+      next earlier.lets tokens statement (plainly earlier.lets tokens statement right.token_in) behind others (right_body many)

@@ -11,9 +11,9 @@ use Rattle.rcp_model.specs.Plan.{AreNames, is_over}
 use Rattle.rcp_model.proofs.NameLaws.{names_more}
 use Rattle.task_lang.specs.declared.token.Token.{Token}
 use Rattle.task_lang.specs.declared.token.Token.TheVariants as token
-use Rattle.task_lang.specs.Words.{place_in}
+use Rattle.rcp_base.specs.Answers.{place_in}
 use Rattle.task_lang.specs.Statements.{Statement, Let, Set, Many, last, next, scope_of, lets_behind, let_rows, set_rows}
-use Rattle.task_lang.specs.NameFaults.{is_among}
+use Rattle.task_lang.specs.NameFaults.{has_name}
 use Rattle.task_lang.specs.RightNames.{IsKnownExpr, Earlier, IsRightTarget, sets_behind, earlier_behind, IsRightStatement}
 use Rattle.task_lang.specs.Printing.{name_at, let_names}
 use Rattle.task_lang.proofs.TokenSizes.{AllFine, fine_front, fine_back}
@@ -50,9 +50,9 @@ module _ (sensors cells : List (List ℕ)) where
       → IsOverLets (length earlier.lets) (value_of statement) × HasName statement
   one_over earlier tokens statement fine right =
       let scope = scope_of sensors cells earlier.lets in
-      let written = statement_written (IsKnownExpr scope) tokens statement right.written in
-      let parts = fine_inside statement written.inside (subst AllFine written.cut fine) in
-      (λ most enough. expressions_over scope most enough 64 written.inside (value_of statement) parts.0 written.derived.0, parts.1)
+      let token_in = statement_written (IsKnownExpr scope) tokens statement right.token_in in
+      let parts = fine_inside statement token_in.inside (subst AllFine token_in.cut fine) in
+      (λ most enough. expressions_over scope most enough 64 token_in.inside (value_of statement) parts.0 token_in.derived.0, parts.1)
 
   -- statements with right names keep them
   pub rules_kept : {earlier : Earlier} {tokens : List Token} {statements : List Statement} → AllFine tokens
@@ -62,12 +62,12 @@ module _ (sensors cells : List (List ℕ)) where
       let one = one_over earlier tokens statement (fine_front tokens behind fine) right in
       (one.0, one.1, right.target, rules_kept (fine_back tokens behind fine) many)
 
-  new_name : (lets : List (List ℕ)) (name : List ℕ) → (is_among sensors name || is_among cells name || is_among lets name) ≡ false
+  new_name : (lets : List (List ℕ)) (name : List ℕ) → (has_name sensors name || has_name cells name || has_name lets name) ≡ false
       → All (λ other. other ≢ name) (sensors ++ cells ++ lets)
   new_name lets name none =
       let Other : List ℕ → Type 0 = λ other. other ≢ name in
-      let variables = neither (is_among sensors name || is_among cells name) (is_among lets name) none in
-      let parts = neither (is_among sensors name) (is_among cells name) variables.0 in
+      let variables = neither (has_name sensors name || has_name cells name) (has_name lets name) none in
+      let parts = neither (has_name sensors name) (has_name cells name) variables.0 in
       All-append Other (sensors ++ cells) lets (All-append Other sensors cells (none_among sensors name parts.0) (none_among cells name parts.1)) (none_among lets name variables.1)
 
   -- the names of the lets are names, and new
@@ -119,7 +119,7 @@ module _ (sensors cells : List (List ℕ)) where
   abbrev pub cell_name : SetRow → List ℕ
   cell_name row = name_at cells row.cell
 
-  set_new : (done : List SetRow) (set : List (List ℕ)) (name : List ℕ) → map cell_name done ≡ set → is_among set name ≡ false
+  set_new : (done : List SetRow) (set : List (List ℕ)) (name : List ℕ) → map cell_name done ≡ set → has_name set name ≡ false
       → (k : ℕ) (d : SetRow) → k < length done → cell_name (slice_index_or done k d) ≢ name
   set_new done set name named none k d below same =
       let Other : List ℕ → Type 0 = λ other. other ≢ name in

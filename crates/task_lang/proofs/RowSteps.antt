@@ -11,11 +11,14 @@ use Rattle.task_lang.specs.declared.reader.ReadFault.TheVariants as fault
 use Rattle.task_lang.specs.declared.statements.Rows.{Rows}
 use Rattle.task_lang.specs.Words.{Scope}
 use Rattle.task_lang.specs.Rules.{expr_rule, enclosed_by}
-use Rattle.task_lang.specs.Reader.{◌>>=◌, Read, Reader, bound, made, alone, expr_reader, readers}
+use Rattle.rcp_base.specs.Answers.{◌>>=◌}
+use Rattle.task_lang.specs.ReaderParts.{Read, Reader, bound, made}
+use Rattle.task_lang.specs.Reader.{alone, expr_reader, readers}
 use Rattle.task_lang.specs.Faults.{Answers}
-use Rattle.task_lang.specs.Statements.{Statement, Let, Set, IsStatement, scope_of, lets_behind, let_rows, set_rows, task_with, statement_reader, then_more, many, statements_rule, read_task}
-use Rattle.task_lang.specs.Levels.{Follows, Fails, IsRead, level_reader}
-use Rattle.task_lang.specs.Rows.{IsAdded}
+use Rattle.task_lang.specs.Statements.{Statement, Let, Set, IsStatement, scope_of, lets_behind, let_rows, set_rows, task_with, statements_rule}
+use Rattle.task_lang.specs.StatementReaders.{statement_reader, then_more, many, read_task}
+use Rattle.task_lang.specs.inner.Levels.{Follows, Fails, IsRead, level_reader}
+use Rattle.task_lang.specs.inner.Rows.{IsAdded}
 use Rattle.task_lang.proofs.ReadingLaws.{Lawful}
 use Rattle.task_lang.proofs.Sequences.{never}
 use Rattle.task_lang.proofs.Levels.{expr_goes, expr_lawful, mark_ends}

@@ -2,7 +2,7 @@
 use Rattle.std.proofs.Common.{◌≡◌, ℕ, ◌+◌, ◌≤◌, List, [], ◌∷◌, ◌++◌, length, codes, refl, sym, ap, ◌∙◌, subst, arith, append_assoc, append-nil, length-append}
 use Rattle.task_lang.specs.declared.token.Token.{Token}
 use Rattle.task_lang.specs.Tokens.{tokens_of}
-use Rattle.task_lang.specs.Printing.{spaced}
+use Rattle.task_lang.specs.Printing.{with_spaces}
 use Rattle.task_lang.proofs.TokenLemmas.{tokens_of-nil}
 use Rattle.task_lang.proofs.Spelling.{Spells, space_spelled}
 
@@ -21,15 +21,15 @@ rows_then (text ∷ texts) more tokens others spelled behind = (
   rows_then texts more spelled.1 others spelled.4 behind,
 )
 
-pub rows_read : (texts : List (List ℕ)) (tokens : List Token) → RowsSpell texts tokens → tokens_of (spaced texts) ≡ tokens
+pub rows_read : (texts : List (List ℕ)) (tokens : List Token) → RowsSpell texts tokens → tokens_of (with_spaces texts) ≡ tokens
 rows_read [] tokens spelled = tokens_of-nil ∙ sym spelled
 rows_read (text ∷ []) tokens spelled =
     ap tokens_of (sym (append-nil text))
     ∙ (spelled.3 [] tt ∙ (ap (λ others. spelled.0 ++ others) (tokens_of-nil ∙ sym spelled.4) ∙ sym spelled.2))
 rows_read (text ∷ other ∷ texts) tokens spelled =
-    ap tokens_of (append_assoc text (codes " ") (spaced (other ∷ texts)))
-    ∙ (spelled.3 (codes " " ++ spaced (other ∷ texts)) refl
-    ∙ (ap (λ others. spelled.0 ++ others) (space_spelled (spaced (other ∷ texts)) ∙ rows_read (other ∷ texts) spelled.1 spelled.4) ∙ sym spelled.2))
+    ap tokens_of (append_assoc text (codes " ") (with_spaces (other ∷ texts)))
+    ∙ (spelled.3 (codes " " ++ with_spaces (other ∷ texts)) refl
+    ∙ (ap (λ others. spelled.0 ++ others) (space_spelled (with_spaces (other ∷ texts)) ∙ rows_read (other ∷ texts) spelled.1 spelled.4) ∙ sym spelled.2))
 
 -- the bytes of texts, each with a space behind it
 abbrev pub bytes_of : List (List ℕ) → ℕ
@@ -40,8 +40,8 @@ pub bytes_of-append : (texts more : List (List ℕ)) → bytes_of (texts ++ more
 bytes_of-append [] more = omega arith
 bytes_of-append (text ∷ texts) more = omega (arith, bytes_of-append texts more)
 
-pub spaced_short : (texts : List (List ℕ)) → length (spaced texts) ≤ bytes_of texts
+pub spaced_short : (texts : List (List ℕ)) → length (with_spaces texts) ≤ bytes_of texts
 spaced_short [] = omega arith
 spaced_short (text ∷ []) = omega arith
 spaced_short (text ∷ other ∷ texts) =
-    omega (arith, length-append (text ++ codes " ") (spaced (other ∷ texts)), length-append text (codes " "), spaced_short (other ∷ texts))
+    omega (arith, length-append (text ++ codes " ") (with_spaces (other ∷ texts)), length-append text (codes " "), spaced_short (other ∷ texts))

@@ -5,9 +5,9 @@ use Rattle.std.specs.List.{list_all}
 use Rattle.task_lang.specs.declared.token.Token.{Token}
 use Rattle.task_lang.specs.declared.token.Token.TheVariants as token
 use Rattle.task_lang.specs.Words.{Scope}
-use Rattle.task_lang.specs.Reader.{choose}
+use Rattle.task_lang.specs.ReaderParts.{choose}
 use Rattle.task_lang.specs.Statements.{Statement, Let, Set, scope_of, lets_behind}
-use Rattle.task_lang.specs.NameFaults.{IsBadTarget, is_among, is_in_scope, first_fault}
+use Rattle.task_lang.specs.NameFaults.{IsBadTarget, has_name, is_in_scope, wrong_name_from}
 use Rattle.task_lang.specs.RightNames.{IsRightTarget, sets_behind}
 use Rattle.task_lang.proofs.KeptLeaves.{stands_within}
 use Rattle.task_lang.proofs.TokensWithin.{is_inner}
@@ -22,85 +22,85 @@ module _ (sensors cells lets set : List (List ℕ)) (name : List ℕ) where
   abbrev scope : Scope
   scope = scope_of sensors cells lets
 
-  let_target : (rest : List Token) → first_fault (seen_at scope [] set) (token.Let ∷ token.Word name ∷ token.Equal ∷ rest)
-      ≡ choose (cond (is_in_scope scope name) (Some IsBadTarget) None) (first_fault (seen_at scope (name ∷ []) set) rest) (λ fault. Some (fault, suc (length (token.Equal ∷ rest))))
+  let_target : (rest : List Token) → wrong_name_from (seen_at scope [] set) (token.Let ∷ token.Word name ∷ token.Equal ∷ rest)
+      ≡ choose (cond (is_in_scope scope name) (Some IsBadTarget) None) (wrong_name_from (seen_at scope (name ∷ []) set) rest) (λ fault. Some (fault, suc (length (token.Equal ∷ rest))))
   let_target rest = refl
 
-  set_target : (rest : List Token) → first_fault (seen_at scope [] set) (token.Word name ∷ token.Assign ∷ rest)
-      ≡ choose (cond (is_among cells name && not (is_among set name)) None (Some IsBadTarget)) (first_fault (seen_at scope [] (set ++ name ∷ [])) rest)
+  set_target : (rest : List Token) → wrong_name_from (seen_at scope [] set) (token.Word name ∷ token.Assign ∷ rest)
+      ≡ choose (cond (has_name cells name && not (has_name set name)) None (Some IsBadTarget)) (wrong_name_from (seen_at scope [] (set ++ name ∷ [])) rest)
       (λ fault. Some (fault, suc (length (token.Assign ∷ rest))))
   set_target rest = refl
 
   let_passed : (rest : List Token) → is_in_scope scope name ≡ false
-      → first_fault (seen_at scope [] set) (token.Let ∷ token.Word name ∷ token.Equal ∷ rest) ≡ first_fault (seen_at scope (name ∷ []) set) rest
+      → wrong_name_from (seen_at scope [] set) (token.Let ∷ token.Word name ∷ token.Equal ∷ rest) ≡ wrong_name_from (seen_at scope (name ∷ []) set) rest
   let_passed rest is =
       let_target rest
-      ∙ ap (λ b. choose (cond b (Some IsBadTarget) None) (first_fault (seen_at scope (name ∷ []) set) rest) (λ fault. Some (fault, suc (length (token.Equal ∷ rest))))) is
+      ∙ ap (λ b. choose (cond b (Some IsBadTarget) None) (wrong_name_from (seen_at scope (name ∷ []) set) rest) (λ fault. Some (fault, suc (length (token.Equal ∷ rest))))) is
 
-  let_tells : (rest : List Token) → first_fault (seen_at scope [] set) (token.Let ∷ token.Word name ∷ token.Equal ∷ rest) ≡ None → is_in_scope scope name ≡ false
+  let_tells : (rest : List Token) → wrong_name_from (seen_at scope [] set) (token.Let ∷ token.Word name ∷ token.Equal ∷ rest) ≡ None → is_in_scope scope name ≡ false
   let_tells rest none = by_case (is_in_scope scope name) refl
     where
       by_case : (b : Bool) → is_in_scope scope name ≡ b → is_in_scope scope name ≡ false
       by_case false is = is
       by_case true is =
-          let fault : first_fault (seen_at scope [] set) (token.Let ∷ token.Word name ∷ token.Equal ∷ rest) ≡ Some (IsBadTarget, suc (length (token.Equal ∷ rest))) =
+          let fault : wrong_name_from (seen_at scope [] set) (token.Let ∷ token.Word name ∷ token.Equal ∷ rest) ≡ Some (IsBadTarget, suc (length (token.Equal ∷ rest))) =
           let_target rest
-          ∙ ap (λ b. choose (cond b (Some IsBadTarget) None) (first_fault (seen_at scope (name ∷ []) set) rest) (λ fault. Some (fault, suc (length (token.Equal ∷ rest))))) is in
+          ∙ ap (λ b. choose (cond b (Some IsBadTarget) None) (wrong_name_from (seen_at scope (name ∷ []) set) rest) (λ fault. Some (fault, suc (length (token.Equal ∷ rest))))) is in
           cc
 
-  set_passed : (rest : List Token) → is_among cells name ≡ true → is_among set name ≡ false
-      → first_fault (seen_at scope [] set) (token.Word name ∷ token.Assign ∷ rest) ≡ first_fault (seen_at scope [] (set ++ name ∷ [])) rest
+  set_passed : (rest : List Token) → has_name cells name ≡ true → has_name set name ≡ false
+      → wrong_name_from (seen_at scope [] set) (token.Word name ∷ token.Assign ∷ rest) ≡ wrong_name_from (seen_at scope [] (set ++ name ∷ [])) rest
   set_passed rest cell new =
-      let passes : (is_among cells name && not (is_among set name)) ≡ true = ap (λ b. b && not (is_among set name)) cell ∙ ap not new in
+      let passes : (has_name cells name && not (has_name set name)) ≡ true = ap (λ b. b && not (has_name set name)) cell ∙ ap not new in
       set_target rest
-      ∙ ap (λ b. choose (cond b None (Some IsBadTarget)) (first_fault (seen_at scope [] (set ++ name ∷ [])) rest) (λ fault. Some (fault, suc (length (token.Assign ∷ rest))))) passes
+      ∙ ap (λ b. choose (cond b None (Some IsBadTarget)) (wrong_name_from (seen_at scope [] (set ++ name ∷ [])) rest) (λ fault. Some (fault, suc (length (token.Assign ∷ rest))))) passes
 
-  set_tells : (rest : List Token) → first_fault (seen_at scope [] set) (token.Word name ∷ token.Assign ∷ rest) ≡ None → (is_among cells name ≡ true) × (is_among set name ≡ false)
-  set_tells rest none = by_case (is_among cells name && not (is_among set name)) refl
+  set_tells : (rest : List Token) → wrong_name_from (seen_at scope [] set) (token.Word name ∷ token.Assign ∷ rest) ≡ None → (has_name cells name ≡ true) × (has_name set name ≡ false)
+  set_tells rest none = by_case (has_name cells name && not (has_name set name)) refl
     where
-      by_case : (b : Bool) → (is_among cells name && not (is_among set name)) ≡ b → (is_among cells name ≡ true) × (is_among set name ≡ false)
+      by_case : (b : Bool) → (has_name cells name && not (has_name set name)) ≡ b → (has_name cells name ≡ true) × (has_name set name ≡ false)
       by_case true is =
-          let parts = both (is_among cells name) (not (is_among set name)) is in (parts.0, not_true (is_among set name) parts.1)
+          let parts = both (has_name cells name) (not (has_name set name)) is in (parts.0, not_true (has_name set name) parts.1)
       by_case false is =
-          let fault : first_fault (seen_at scope [] set) (token.Word name ∷ token.Assign ∷ rest) ≡ Some (IsBadTarget, suc (length (token.Assign ∷ rest))) =
+          let fault : wrong_name_from (seen_at scope [] set) (token.Word name ∷ token.Assign ∷ rest) ≡ Some (IsBadTarget, suc (length (token.Assign ∷ rest))) =
           set_target rest
-          ∙ ap (λ b. choose (cond b None (Some IsBadTarget)) (first_fault (seen_at scope [] (set ++ name ∷ [])) rest) (λ fault. Some (fault, suc (length (token.Assign ∷ rest))))) is in
+          ∙ ap (λ b. choose (cond b None (Some IsBadTarget)) (wrong_name_from (seen_at scope [] (set ++ name ∷ [])) rest) (λ fault. Some (fault, suc (length (token.Assign ∷ rest))))) is in
           cc
 
 module _ (sensors cells lets set : List (List ℕ)) where
   -- a right statement is passed
   pub statement_passed : (statement : Statement) (inside rest : List Token) → IsRightTarget sensors cells lets set statement
       → list_all (stands_within (scope_of sensors cells lets)) inside ≡ true
-      → first_fault (seen_at (scope_of sensors cells lets) [] set) (statement_tokens statement inside ++ rest)
-      ≡ first_fault (seen_at (scope_of sensors cells (lets_behind lets statement)) [] (sets_behind set statement)) rest
+      → wrong_name_from (seen_at (scope_of sensors cells lets) [] set) (statement_tokens statement inside ++ rest)
+      ≡ wrong_name_from (seen_at (scope_of sensors cells (lets_behind lets statement)) [] (sets_behind set statement)) rest
   statement_passed (Let name value) inside rest right all =
       let scope = scope_of sensors cells lets in
       let_passed sensors cells lets set name ((inside ++ token.Semicolon ∷ []) ++ rest) right
-      ∙ (ap (first_fault (seen_at scope (name ∷ []) set)) (append_assoc inside (token.Semicolon ∷ []) rest) ∙ all_passed scope (name ∷ []) set inside (token.Semicolon ∷ rest) refl all)
+      ∙ (ap (wrong_name_from (seen_at scope (name ∷ []) set)) (append_assoc inside (token.Semicolon ∷ []) rest) ∙ all_passed scope (name ∷ []) set inside (token.Semicolon ∷ rest) refl all)
   statement_passed (Set name value) inside rest right all =
       let scope = scope_of sensors cells lets in
       set_passed sensors cells lets set name ((inside ++ token.Semicolon ∷ []) ++ rest) right.0 right.1
-      ∙ (ap (first_fault (seen_at scope [] (set ++ name ∷ []))) (append_assoc inside (token.Semicolon ∷ []) rest)
+      ∙ (ap (wrong_name_from (seen_at scope [] (set ++ name ∷ []))) (append_assoc inside (token.Semicolon ∷ []) rest)
       ∙ (all_passed scope [] (set ++ name ∷ []) inside (token.Semicolon ∷ rest) refl all
-      ∙ ap (λ list. first_fault (seen_at (scope_of sensors cells list) [] (set ++ name ∷ [])) rest) (append-nil lets)))
+      ∙ ap (λ list. wrong_name_from (seen_at (scope_of sensors cells list) [] (set ++ name ∷ [])) rest) (append-nil lets)))
 
   -- and one that is passed is right
   pub passed_statement : (statement : Statement) (inside rest : List Token) → list_all is_inner inside ≡ true
-      → first_fault (seen_at (scope_of sensors cells lets) [] set) (statement_tokens statement inside ++ rest) ≡ None
+      → wrong_name_from (seen_at (scope_of sensors cells lets) [] set) (statement_tokens statement inside ++ rest) ≡ None
       → IsRightTarget sensors cells lets set statement × (list_all (stands_within (scope_of sensors cells lets)) inside ≡ true)
   passed_statement (Let name value) inside rest inner none =
       let scope = scope_of sensors cells lets in
       let right : is_in_scope scope name ≡ false = let_tells sensors cells lets set name ((inside ++ token.Semicolon ∷ []) ++ rest) none in
-      let behind : first_fault (seen_at scope (name ∷ []) set) (inside ++ token.Semicolon ∷ rest) ≡ None =
+      let behind : wrong_name_from (seen_at scope (name ∷ []) set) (inside ++ token.Semicolon ∷ rest) ≡ None =
       sym (let_passed sensors cells lets set name ((inside ++ token.Semicolon ∷ []) ++ rest) right
-      ∙ ap (first_fault (seen_at scope (name ∷ []) set)) (append_assoc inside (token.Semicolon ∷ []) rest))
+      ∙ ap (wrong_name_from (seen_at scope (name ∷ []) set)) (append_assoc inside (token.Semicolon ∷ []) rest))
       ∙ none in
       (right, passed_all scope (name ∷ []) set inside (token.Semicolon ∷ rest) refl inner behind)
   passed_statement (Set name value) inside rest inner none =
       let scope = scope_of sensors cells lets in
-      let right : (is_among cells name ≡ true) × (is_among set name ≡ false) = set_tells sensors cells lets set name ((inside ++ token.Semicolon ∷ []) ++ rest) none in
-      let behind : first_fault (seen_at scope [] (set ++ name ∷ [])) (inside ++ token.Semicolon ∷ rest) ≡ None =
+      let right : (has_name cells name ≡ true) × (has_name set name ≡ false) = set_tells sensors cells lets set name ((inside ++ token.Semicolon ∷ []) ++ rest) none in
+      let behind : wrong_name_from (seen_at scope [] (set ++ name ∷ [])) (inside ++ token.Semicolon ∷ rest) ≡ None =
       sym (set_passed sensors cells lets set name ((inside ++ token.Semicolon ∷ []) ++ rest) right.0 right.1
-      ∙ ap (first_fault (seen_at scope [] (set ++ name ∷ []))) (append_assoc inside (token.Semicolon ∷ []) rest))
+      ∙ ap (wrong_name_from (seen_at scope [] (set ++ name ∷ []))) (append_assoc inside (token.Semicolon ∷ []) rest))
       ∙ none in
       (right, passed_all scope [] (set ++ name ∷ []) inside (token.Semicolon ∷ rest) refl inner behind)

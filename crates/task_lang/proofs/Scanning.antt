@@ -5,8 +5,8 @@ use Rattle.std.specs.List.{list_all}
 use Rattle.task_lang.specs.declared.token.Token.{Token}
 use Rattle.task_lang.specs.declared.token.Token.TheVariants as token
 use Rattle.task_lang.specs.Words.{Scope}
-use Rattle.task_lang.specs.Reader.{choose}
-use Rattle.task_lang.specs.NameFaults.{NameFault, IsUnknown, Seen, SetCell, Operand, is_in_scope, begins_with_assign, fault_in, seen_behind_name, first_fault}
+use Rattle.task_lang.specs.ReaderParts.{choose}
+use Rattle.task_lang.specs.NameFaults.{NameFault, IsUnknown, Seen, SetCell, Operand, is_in_scope, begins_with_assign, fault_in, seen_behind_name, wrong_name_from}
 use Rattle.task_lang.specs.RightNames.{is_known, AreKnown}
 use Rattle.task_lang.proofs.KeptLeaves.{stands_within}
 use Rattle.task_lang.proofs.TokensWithin.{is_inner}
@@ -18,19 +18,19 @@ seen_at scope begun set = record { scope = scope; begun = begun; set = set; behi
 module _ (scope : Scope) (begun set : List (List ℕ)) where
   -- how a test of a name goes on
   abbrev pub tested : Bool → NameFault → Seen → List Token → Option (NameFault × ℕ)
-  tested passes fault seen rest = choose (cond passes None (Some fault)) (first_fault seen rest) (λ fault. Some (fault, suc (length rest)))
+  tested passes fault seen rest = choose (cond passes None (Some fault)) (wrong_name_from seen rest) (λ fault. Some (fault, suc (length rest)))
 
   pub operand : (name : List ℕ) (rest : List Token) → begins_with_assign rest ≡ false
-      → first_fault (seen_at scope begun set) (token.Word name ∷ rest) ≡ tested (is_in_scope scope name) IsUnknown (seen_at scope begun set) rest
+      → wrong_name_from (seen_at scope begun set) (token.Word name ∷ rest) ≡ tested (is_in_scope scope name) IsUnknown (seen_at scope begun set) rest
   operand name rest none =
       ap (λ b.
       let role = cond b SetCell Operand in
-      choose (fault_in (seen_at scope begun set) role name) (first_fault (seen_behind_name (seen_at scope begun set) role name) rest) (λ fault. Some (fault, suc (length rest))))
+      choose (fault_in (seen_at scope begun set) role name) (wrong_name_from (seen_behind_name (seen_at scope begun set) role name) rest) (λ fault. Some (fault, suc (length rest))))
       none
 
   -- a token that may stand within an expression is passed
   stands_passed : (first : Token) (rest : List Token) → begins_with_assign rest ≡ false → stands_within scope first ≡ true
-      → first_fault (seen_at scope begun set) (first ∷ rest) ≡ first_fault (seen_at scope begun set) rest
+      → wrong_name_from (seen_at scope begun set) (first ∷ rest) ≡ wrong_name_from (seen_at scope begun set) rest
   stands_passed (token.Word name) rest none stands =
       operand name rest none ∙ ap (λ b. tested b IsUnknown (seen_at scope begun set) rest) stands
   stands_passed token.Let rest none stands = cc
@@ -41,13 +41,13 @@ module _ (scope : Scope) (begun set : List (List ℕ)) where
 
   -- an inner token that is passed may stand there
   passed_stands : (first : Token) (rest : List Token) → begins_with_assign rest ≡ false → is_inner first ≡ true
-      → first_fault (seen_at scope begun set) (first ∷ rest) ≡ None → stands_within scope first ≡ true
+      → wrong_name_from (seen_at scope begun set) (first ∷ rest) ≡ None → stands_within scope first ≡ true
   passed_stands (token.Word name) rest none inner found = by_case (is_in_scope scope name) refl
     where
       by_case : (b : Bool) → is_in_scope scope name ≡ b → is_in_scope scope name ≡ true
       by_case true is = is
       by_case false is =
-          let fault : first_fault (seen_at scope begun set) (token.Word name ∷ rest) ≡ Some (IsUnknown, suc (length rest)) =
+          let fault : wrong_name_from (seen_at scope begun set) (token.Word name ∷ rest) ≡ Some (IsUnknown, suc (length rest)) =
           operand name rest none ∙ ap (λ b. tested b IsUnknown (seen_at scope begun set) rest) is in
           cc
   passed_stands token.Let rest none inner found = cc
@@ -86,7 +86,7 @@ all_inner scope (first ∷ tokens) all =
 module _ (scope : Scope) (begun set : List (List ℕ)) where
   -- an expression whose names are in scope is passed
   pub all_passed : (tokens rest : List Token) → begins_with_assign rest ≡ false → list_all (stands_within scope) tokens ≡ true
-      → first_fault (seen_at scope begun set) (tokens ++ rest) ≡ first_fault (seen_at scope begun set) rest
+      → wrong_name_from (seen_at scope begun set) (tokens ++ rest) ≡ wrong_name_from (seen_at scope begun set) rest
   all_passed [] rest none all = refl
   all_passed (first ∷ tokens) rest none all =
       let parts = both (stands_within scope first) (list_all (stands_within scope) tokens) all in
@@ -94,14 +94,14 @@ module _ (scope : Scope) (begun set : List (List ℕ)) where
       ∙ all_passed tokens rest none parts.1
 
   -- and one that is passed has its names in scope
-  pub passed_all : (tokens rest : List Token) → begins_with_assign rest ≡ false → list_all is_inner tokens ≡ true → first_fault (seen_at scope begun set) (tokens ++ rest) ≡ None
+  pub passed_all : (tokens rest : List Token) → begins_with_assign rest ≡ false → list_all is_inner tokens ≡ true → wrong_name_from (seen_at scope begun set) (tokens ++ rest) ≡ None
       → list_all (stands_within scope) tokens ≡ true
   passed_all [] rest none inner found = refl
   passed_all (first ∷ tokens) rest none inner found =
       let parts = both (is_inner first) (list_all is_inner tokens) inner in
       let behind : begins_with_assign (tokens ++ rest) ≡ false = no_assign_behind tokens rest parts.1 none in
       let stands : stands_within scope first ≡ true = passed_stands scope begun set first (tokens ++ rest) behind parts.0 found in
-      let next : first_fault (seen_at scope begun set) (tokens ++ rest) ≡ None = sym (stands_passed scope begun set first (tokens ++ rest) behind stands) ∙ found in
+      let next : wrong_name_from (seen_at scope begun set) (tokens ++ rest) ≡ None = sym (stands_passed scope begun set first (tokens ++ rest) behind stands) ∙ found in
       ap (λ b. b && list_all (stands_within scope) tokens) stands ∙ passed_all tokens rest none parts.1 next
 
 -- it stands within an expression where it parts no statements and is known

@@ -7,7 +7,8 @@ use Rattle.task_lang.specs.declared.token.Token.{Token}
 use Rattle.task_lang.specs.declared.token.Token.TheVariants as token
 use Rattle.task_lang.specs.declared.token.Mark.{Mark}
 use Rattle.task_lang.specs.declared.token.Mark.TheVariants as mark
-use Rattle.task_lang.specs.Words.{Scope, leaf_of, named_by, or_op, and_op, comparison_op, sum_op, product_op, is_minus, is_not, is_let, Part, Sign, Inside, parts_of, tree_of}
+use Rattle.task_lang.specs.Words.{Scope, leaf_of, named_by, or_op, and_op, comparison_op, sum_op, product_op, is_minus, is_not, is_let}
+use Rattle.task_lang.specs.Forms.{Part, Sign, Inside, parts_of_form, tree_of}
 use Rattle.task_lang.specs.Rules.{LeftGrouped, one, more, Compared, single, pair, Prefixed, plain, prefixed_by, Sequence, IsPrim, leaf, within, Enclosed, enclosed_by, prim_rule, unary_rule, product_rule, sum_rule, comparison_rule, inv_rule, conj_rule, expr_rule}
 use Rattle.task_lang.specs.Faults.{Begins, IsFaultAt}
 use Rattle.task_lang.specs.Statements.{Statement, Let, Set, IsNamed, named, IsStatement, Many, last, next, scope_of, lets_behind, statements_rule}
@@ -57,7 +58,7 @@ leaf_covered scope other _ a is = (a, cc)
 prim_covered : (scope other : Scope) (Less More : List Token → Expr → Type 0) → IsCoveredBy Less More → IsCoveredBy (IsPrim scope Less) (IsPrim other More)
 prim_covered scope other Less More covered tokens a (leaf token b is) = let same = leaf_covered scope other token b is in (same.0, leaf token same.0 same.1)
 prim_covered scope other Less More covered tokens a (within token form is list trees derived) =
-    let others = sequence_covered Less More covered (parts_of form) list trees derived in
+    let others = sequence_covered Less More covered (parts_of_form form) list trees derived in
     (tree_of form others.0, within token form is list others.0 others.1)
 
 record AreCoveredBy (less more : Enclosed) : Type 0 where

@@ -5,9 +5,11 @@ use Rattle.task_lang.specs.declared.token.Token.{Token}
 use Rattle.task_lang.specs.declared.token.Token.TheVariants as token
 use Rattle.task_lang.specs.declared.token.Mark.{Mark}
 use Rattle.task_lang.specs.declared.token.Mark.TheVariants as mark
-use Rattle.task_lang.specs.Words.{token_of_mark, is_mark, Part, Sign, Inside}
+use Rattle.task_lang.specs.Words.{token_of_mark, is_mark}
+use Rattle.task_lang.specs.Forms.{Part, Sign, Inside}
 use Rattle.task_lang.specs.Rules.{Sequence}
-use Rattle.task_lang.specs.Reader.{◌>>=◌, Reader, made, past, sequence}
+use Rattle.rcp_base.specs.Answers.{◌>>=◌}
+use Rattle.task_lang.specs.ReaderParts.{Reader, made, past, sequence}
 use Rattle.task_lang.proofs.ReadingLaws.{Stops, SoundAt, Lawful}
 use Rattle.task_lang.proofs.Combining.{bound-ok, bound_sound, sound_under, behind_sound, made_sound, done_sound, stop_sound}
 

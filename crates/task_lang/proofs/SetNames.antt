@@ -3,19 +3,20 @@ use Rattle.std.proofs.Common.{◌≡◌, ℕ, suc, Bool, true, false, not, ◌&&
 use Rattle.std.specs.Prelude.{is_some}
 use Rattle.task_lang.specs.declared.token.Token.{Token}
 use Rattle.task_lang.specs.declared.token.Token.TheVariants as token
-use Rattle.task_lang.specs.Words.{place_in, is_let}
-use Rattle.task_lang.specs.Reader.{choose}
-use Rattle.task_lang.specs.NameFaults.{NameFault, IsBadTarget, Role, NewLet, SetCell, Operand, Seen, is_among, role_before, fault_in, seen_behind_name, seen_behind, first_fault, nothing_seen, name_fault}
+use Rattle.rcp_base.specs.Answers.{place_in}
+use Rattle.task_lang.specs.Words.{is_let}
+use Rattle.task_lang.specs.ReaderParts.{choose}
+use Rattle.task_lang.specs.NameFaults.{NameFault, IsBadTarget, Role, NewLet, SetCell, Operand, Seen, has_name, role_before, fault_in, seen_behind_name, seen_behind, wrong_name_from, nothing_seen, first_wrong_name}
 
 -- the scan over these tokens finds no wrong name; `let` stands right before or not
 pub record IsScanned (cells : List (List ℕ)) (behind_let : Bool) (tokens : List Token) : Type 0 where
   pub seen : Seen
   pub cells_are : seen.scope.cells ≡ cells
   pub behind : seen.behind_let ≡ behind_let
-  pub fine : first_fault seen tokens ≡ None
+  pub fine : wrong_name_from seen tokens ≡ None
 
-pub scanned_all : (sensors cells : List (List ℕ)) (tokens : List Token) → name_fault sensors cells tokens ≡ None → IsScanned cells false tokens
-unfolding name_fault
+pub scanned_all : (sensors cells : List (List ℕ)) (tokens : List Token) → first_wrong_name sensors cells tokens ≡ None → IsScanned cells false tokens
+unfolding first_wrong_name
 scanned_all sensors cells tokens fine = record { seen = nothing_seen sensors cells; cells_are = refl; behind = refl; fine = fine }
 
 -- behind a word
@@ -24,7 +25,7 @@ word_scanned : (cells : List (List ℕ)) (behind_let : Bool) (name : List ℕ) (
 word_scanned cells behind_let name rest scan = by_fault (fault_in scan.seen (role_before scan.seen rest) name) refl scan.fine
   where
     next : Role → Option (NameFault × ℕ)
-    next role = first_fault (seen_behind_name scan.seen role name) rest
+    next role = wrong_name_from (seen_behind_name scan.seen role name) rest
 
     goes_on : (role : Role) → next role ≡ None → IsScanned cells false rest
     goes_on NewLet fine = record { seen = seen_behind_name scan.seen NewLet name; cells_are = scan.cells_are; behind = refl; fine = fine }
@@ -62,4 +63,4 @@ set_scanned cells name rest scan =
     let fine : fault_in scan.seen (cond false NewLet SetCell) name ≡ None =
     subst (λ test. fault_in scan.seen (cond test NewLet SetCell) name ≡ None) scan.behind (word_scanned cells false name (token.Assign ∷ rest) scan).0 in
     place_of (place_in cells name)
-    (subst (λ cells. is_among cells name ≡ true) scan.cells_are (no_bad_target (is_among scan.seen.scope.cells name) (not (is_among scan.seen.set name)) fine))
+    (subst (λ cells. has_name cells name ≡ true) scan.cells_are (no_bad_target (has_name scan.seen.scope.cells name) (not (has_name scan.seen.set name)) fine))

@@ -5,8 +5,9 @@ use Rattle.task_lang.specs.declared.token.Token.{Token}
 use Rattle.task_lang.specs.declared.token.Token.TheVariants as token
 use Rattle.task_lang.specs.declared.token.Form.{Form}
 use Rattle.task_lang.specs.declared.token.Form.TheVariants as form
-use Rattle.task_lang.specs.Words.{or_op, and_op, comparison_op, sum_op, product_op, form_of}
-use Rattle.task_lang.specs.Printing.{sign_of}
+use Rattle.task_lang.specs.Words.{or_op, and_op, comparison_op, sum_op, product_op}
+use Rattle.task_lang.specs.Forms.{form_of_token}
+use Rattle.task_lang.specs.Signs.{sign_of}
 use Rattle.task_lang.proofs.TokenSizes.{size_of}
 use Rattle.task_lang.proofs.TreeFits.{IsInfix}
 
@@ -61,7 +62,7 @@ word_size form.If = 2
 same_form : {a b : Form} → Some a ≡ Some b → a ≡ b
 same_form is = cc
 
-pub word_is_short : (t : Token) (which : Form) → form_of t ≡ Some which → word_size which ≤ size_of t
+pub word_is_short : (t : Token) (which : Form) → form_of_token t ≡ Some which → word_size which ≤ size_of t
 word_is_short token.Open which is = subst (λ which. word_size which ≤ 1) (same_form is) (omega arith)
 word_is_short token.Abs which is = subst (λ which. word_size which ≤ 3) (same_form is) (omega arith)
 word_is_short token.Min which is = subst (λ which. word_size which ≤ 3) (same_form is) (omega arith)

@@ -4,9 +4,10 @@ use Rattle.std.specs.Prelude.{flat_map, is_some, unwrap_or}
 use Rattle.rcp_model.specs.declared.task.LetRow.{LetRow}
 use Rattle.task_lang.specs.declared.token.Token.{Token}
 use Rattle.task_lang.specs.declared.token.Token.TheVariants as token
-use Rattle.task_lang.specs.Words.{Scope, place_in}
+use Rattle.task_lang.specs.Words.{Scope}
+use Rattle.rcp_base.specs.Answers.{place_in}
 use Rattle.task_lang.specs.Statements.{Statement, Let, Set, scope_of, let_rows, set_rows}
-use Rattle.task_lang.specs.NameFaults.{is_among}
+use Rattle.task_lang.specs.NameFaults.{has_name}
 use Rattle.task_lang.specs.Printing.{name_at}
 use Rattle.task_lang.specs.PrintedTokens.{expr_tokens, let_tokens, set_tokens}
 use Rattle.task_lang.proofs.NamingLemmas.{name_at_place}
@@ -51,7 +52,7 @@ as_many (Set name value ∷ others) = one_behind (lets_of others) (Set name valu
     one_behind (first ∷ front) statement behind = ap suc (one_behind front statement behind)
 
 -- a cell that is set is printed by its name
-name_again : (cells : List (List ℕ)) (name : List ℕ) → is_among cells name ≡ true → name_at cells (unwrap_or (place_in cells name) 0) ≡ name
+name_again : (cells : List (List ℕ)) (name : List ℕ) → has_name cells name ≡ true → name_at cells (unwrap_or (place_in cells name) 0) ≡ name
 name_again cells name is = by_place (place_in cells name) refl is
   where
     by_place : (found : Option ℕ) → place_in cells name ≡ found → is_some found ≡ true → name_at cells (unwrap_or found 0) ≡ name

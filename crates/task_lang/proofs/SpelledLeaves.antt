@@ -14,7 +14,7 @@ use Rattle.std.specs.Fmt.{decimal}
 use Rattle.rcp_base.specs.Name.{is_name_byte, is_word, is_name, name_of}
 use Rattle.task_lang.specs.declared.token.Token.{Token}
 use Rattle.task_lang.specs.declared.token.Token.TheVariants as token
-use Rattle.task_lang.specs.Tokens.{is_blank, goes_with_equal, tail_of, number_of, number_or_word, operators, reserved, written, token_or, token_of, tokens_of}
+use Rattle.task_lang.specs.Tokens.{is_blank, goes_with_equal, tail_of, number_in, number_or_word, operators, reserved, token_in, token_or, token_of, tokens_of}
 use Rattle.task_lang.proofs.TokenLemmas.{tokens_of-token}
 use Rattle.task_lang.proofs.LexemeLemmas.{digits_are_numerals}
 use Rattle.task_lang.proofs.Spelling.{Ends, Spells}
@@ -111,21 +111,21 @@ unlike_digits b bytes literal digit literal_is = by_case (bytes_eq (b ∷ bytes)
 abbrev no_digits : List (List ℕ × Token) → Bool
 no_digits table = list_all (λ (row : List ℕ × Token). no_digit row.0) table
 
-digits_unwritten : (table : List (List ℕ × Token)) (b : ℕ) (bytes : List ℕ) → is_ascii_digit b ≡ true → no_digits table ≡ true → written table (b ∷ bytes) ≡ None
+digits_unwritten : (table : List (List ℕ × Token)) (b : ℕ) (bytes : List ℕ) → is_ascii_digit b ≡ true → no_digits table ≡ true → token_in table (b ∷ bytes) ≡ None
 digits_unwritten [] b bytes digit all = refl
 digits_unwritten (row ∷ rows) b bytes digit all =
     let here : no_digit row.0 ≡ true = grind arith in
     let others : no_digits rows ≡ true = grind arith in
-    ap (λ same. cond same (Some row.1) (written rows (b ∷ bytes))) (unlike_digits b bytes row.0 digit here) ∙ digits_unwritten rows b bytes digit others
+    ap (λ same. cond same (Some row.1) (token_in rows (b ∷ bytes))) (unlike_digits b bytes row.0 digit here) ∙ digits_unwritten rows b bytes digit others
 
-number_token : (b : ℕ) (bytes : List ℕ) (n : ℕ) → is_ascii_digit b ≡ true → number_of (b ∷ bytes) ≡ Some (pos n) → token_of (b ∷ bytes) ≡ token.Number (pos n)
+number_token : (b : ℕ) (bytes : List ℕ) (n : ℕ) → is_ascii_digit b ≡ true → number_in (b ∷ bytes) ≡ Some (pos n) → token_of (b ∷ bytes) ≡ token.Number (pos n)
 unfolding token_of
 number_token b bytes n digit is =
-    ap (λ found. token_or found (written reserved (b ∷ bytes)) (number_or_word (number_of (b ∷ bytes)) (name_of (b ∷ bytes)))) (digits_unwritten operators b bytes digit refl)
-    ∙ (ap (λ found. token_or None found (number_or_word (number_of (b ∷ bytes)) (name_of (b ∷ bytes)))) (digits_unwritten reserved b bytes digit refl)
+    ap (λ found. token_or found (token_in reserved (b ∷ bytes)) (number_or_word (number_in (b ∷ bytes)) (name_of (b ∷ bytes)))) (digits_unwritten operators b bytes digit refl)
+    ∙ (ap (λ found. token_or None found (number_or_word (number_in (b ∷ bytes)) (name_of (b ∷ bytes)))) (digits_unwritten reserved b bytes digit refl)
     ∙ ap (λ found. number_or_word found (name_of (b ∷ bytes))) is)
 
-number_read : (text : List ℕ) (n : ℕ) → 0 < length text → list_all is_ascii_digit text ≡ true → digits_value 10 text ≡ n → n < 2 ^ 63 → number_of text ≡ Some (pos n)
+number_read : (text : List ℕ) (n : ℕ) → 0 < length text → list_all is_ascii_digit text ≡ true → digits_value 10 text ≡ n → n < 2 ^ 63 → number_in text ≡ Some (pos n)
 number_read text n some digits value small = grind (arith, common_steps)
 
 digits_spelled : (text : List ℕ) (n : ℕ) → 0 < length text → list_all is_ascii_digit text ≡ true → digits_value 10 text ≡ n → n < 2 ^ 63 → Spells text (token.Number (pos n) ∷ [])

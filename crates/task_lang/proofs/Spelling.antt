@@ -6,7 +6,7 @@ use Rattle.rcp_model.specs.declared.expr.Op.TheVariants as op
 use Rattle.task_lang.specs.declared.token.Token.{Token}
 use Rattle.task_lang.specs.declared.token.Token.TheVariants as token
 use Rattle.task_lang.specs.Tokens.{token_of, tokens_of}
-use Rattle.task_lang.specs.Printing.{is_call, sign_of}
+use Rattle.task_lang.specs.Signs.{is_call, sign_of}
 use Rattle.task_lang.specs.PrintedTokens.{sign_token}
 
 -- a word or a number before it ends there

@@ -9,7 +9,8 @@ use Rattle.task_lang.specs.declared.token.Token.{Token}
 use Rattle.task_lang.specs.declared.token.Token.TheVariants as token
 use Rattle.task_lang.specs.declared.token.Mark.{Mark}
 use Rattle.task_lang.specs.declared.token.Mark.TheVariants as mark
-use Rattle.task_lang.specs.Words.{Scope, place_in, is_let, token_of_mark}
+use Rattle.task_lang.specs.Words.{Scope, is_let, token_of_mark}
+use Rattle.rcp_base.specs.Answers.{place_in}
 use Rattle.task_lang.specs.Rules.{plain, prefixed_by}
 use Rattle.task_lang.specs.Statements.{Statement, Let, Set, IsNamed, named, IsStatement}
 use Rattle.task_lang.specs.Printing.{expr_text, name_at, printed, let_text, set_text}

@@ -7,9 +7,12 @@ use Rattle.task_lang.specs.declared.token.Mark.{Mark}
 use Rattle.task_lang.specs.declared.token.Mark.TheVariants as mark
 use Rattle.task_lang.specs.Words.{is_let, token_of_mark}
 use Rattle.task_lang.specs.Rules.{Sequence, plain, prefixed_by, expr_rule, enclosed_by}
-use Rattle.task_lang.specs.Reader.{◌>>=◌, choose, Reader, made, sequence, whole, expr_reader, readers}
+use Rattle.rcp_base.specs.Answers.{◌>>=◌}
+use Rattle.task_lang.specs.ReaderParts.{choose, Reader, made, sequence}
+use Rattle.task_lang.specs.Reader.{whole, expr_reader, readers}
 use Rattle.task_lang.specs.Faults.{Answers}
-use Rattle.task_lang.specs.Statements.{Statement, Let, Set, IsNamed, named, IsStatement, parts_behind, word_of, only, named_reader, statement_reader, scope_of, lets_behind, statements_rule, statements_reader}
+use Rattle.task_lang.specs.Statements.{Statement, Let, Set, IsNamed, named, IsStatement, parts_behind, word_of, scope_of, lets_behind, statements_rule}
+use Rattle.task_lang.specs.StatementReaders.{only, named_reader, statement_reader, statements_reader}
 use Rattle.task_lang.specs.Readings.{BodiesAreRead}
 use Rattle.task_lang.proofs.ReadingLaws.{SoundAt, Lawful}
 use Rattle.task_lang.proofs.Combining.{behind_sound, made_sound, stop_sound}

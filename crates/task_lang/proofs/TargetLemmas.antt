@@ -8,7 +8,7 @@ use Rattle.task_lang.specs.declared.token.Token.TheVariants as token
 use Rattle.task_lang.specs.Tokens.{tokens_of}
 use Rattle.task_lang.specs.Words.{Scope}
 use Rattle.task_lang.specs.Statements.{scope_of}
-use Rattle.task_lang.specs.NameFaults.{is_in_scope, begins_with_assign, first_fault, name_fault}
+use Rattle.task_lang.specs.NameFaults.{is_in_scope, begins_with_assign, wrong_name_from, first_wrong_name}
 use Rattle.task_lang.specs.RightNames.{ExpressionsHaveNoTargets}
 use Rattle.task_lang.proofs.TokensWithin.{is_inner, tokens_inner}
 use Rattle.task_lang.proofs.Scanning.{seen_at, tested, operand, both, no_assign_behind}
@@ -19,7 +19,7 @@ kind_of (Some (kind, left)) = kind
 
 module _ (scope : Scope) (begun set : List (List ℕ)) (left : ℕ) where
   abbrev HasTarget : List Token → Type 0
-  HasTarget tokens = first_fault (seen_at scope begun set) tokens ≡ Some (IsBadTarget, left)
+  HasTarget tokens = wrong_name_from (seen_at scope begun set) tokens ≡ Some (IsBadTarget, left)
 
   target_behind : (first : Token) (rest : List Token) → begins_with_assign rest ≡ false → is_inner first ≡ true → HasTarget (first ∷ rest) → HasTarget rest
   target_behind (token.Word name) rest none inner found = by_case (is_in_scope scope name) refl
@@ -28,7 +28,7 @@ module _ (scope : Scope) (begun set : List (List ℕ)) (left : ℕ) where
       by_case true is =
           sym (operand scope begun set name rest none ∙ ap (λ b. tested scope begun set b IsUnknown (seen_at scope begun set) rest) is) ∙ found
       by_case false is =
-          let fault : first_fault (seen_at scope begun set) (token.Word name ∷ rest) ≡ Some (IsUnknown, suc (length rest)) =
+          let fault : wrong_name_from (seen_at scope begun set) (token.Word name ∷ rest) ≡ Some (IsUnknown, suc (length rest)) =
           operand scope begun set name rest none ∙ ap (λ b. tested scope begun set b IsUnknown (seen_at scope begun set) rest) is in
           let same : IsUnknown ≡ IsBadTarget = ap kind_of (sym fault ∙ found) in
           cc
@@ -46,7 +46,7 @@ module _ (scope : Scope) (begun set : List (List ℕ)) (left : ℕ) where
       no_target tokens parts.1 (target_behind first tokens behind parts.0 found)
 
 pub expressions_have_no_targets : ExpressionsHaveNoTargets
-unfolding name_fault
+unfolding first_wrong_name
 expressions_have_no_targets sensors cells text byte wrong =
     let scope = scope_of sensors cells [] in
     let tokens = tokens_of text in

@@ -7,13 +7,15 @@ use Rattle.task_lang.specs.declared.reader.ReadFault.TheVariants as fault
 use Rattle.task_lang.specs.declared.token.Token.{Token}
 use Rattle.task_lang.specs.Tokens.{tokens_of, lefts_of}
 use Rattle.task_lang.specs.Rules.{IsExpr}
-use Rattle.task_lang.specs.Reader.{◌>>=◌, whole, expr_reader, readers}
+use Rattle.rcp_base.specs.Answers.{◌>>=◌}
+use Rattle.task_lang.specs.Reader.{whole, expr_reader, readers}
 use Rattle.task_lang.specs.Faults.{Begins, IsFaultAt, Answers}
-use Rattle.task_lang.specs.Statements.{IsTask, scope_of, task_with, statements_rule, statements_reader, read_task}
-use Rattle.task_lang.specs.NameFaults.{NameFault, IsUnknown, IsBadTarget, name_fault}
+use Rattle.task_lang.specs.Statements.{IsTask, scope_of, task_with, statements_rule}
+use Rattle.task_lang.specs.StatementReaders.{statements_reader, read_task}
+use Rattle.task_lang.specs.NameFaults.{NameFault, IsUnknown, IsBadTarget, first_wrong_name}
 use Rattle.task_lang.specs.Answers.{IsAnswer}
 use Rattle.task_lang.specs.TextReaders.{byte_at, fault_of_syntax, fault_of_name, with_names, text_answer, read_expr, read_body}
-use Rattle.task_lang.specs.Levels.{IsRead}
+use Rattle.task_lang.specs.inner.Levels.{IsRead}
 use Rattle.task_lang.specs.Readings.{TokensStandIn, ExpressionTextsAreRead, BodyTextsAreRead}
 use Rattle.task_lang.proofs.FaultLemmas.{expressions_read}
 use Rattle.task_lang.proofs.StatementLemmas.{statements_answer}
@@ -66,7 +68,7 @@ pub expression_texts_read : ExpressionTextsAreRead
 unfolding read_expr
 expression_texts_read sensors cells text =
     let scope = scope_of sensors cells [] in
-    text_answered (IsExpr scope) text (name_fault sensors cells (tokens_of text)) (whole (expr_reader scope (readers scope 64)) (tokens_of text))
+    text_answered (IsExpr scope) text (first_wrong_name sensors cells (tokens_of text)) (whole (expr_reader scope (readers scope 64)) (tokens_of text))
     (expressions_read scope (tokens_of text))
 
 -- the reader of tasks answers by the grammar
@@ -79,7 +81,7 @@ tasks_answer n sensors cells name tokens =
 pub body_texts_read : BodyTextsAreRead
 unfolding read_body
 body_texts_read sensors cells name text =
-    text_answered (IsTask sensors cells name) text (name_fault sensors cells (tokens_of text)) (read_task 64 sensors cells name (tokens_of text))
+    text_answered (IsTask sensors cells name) text (first_wrong_name sensors cells (tokens_of text)) (read_task 64 sensors cells name (tokens_of text))
     (tasks_answer 64 sensors cells name (tokens_of text))
 
 -- what the code answers of a text's tokens is what it answers of the text

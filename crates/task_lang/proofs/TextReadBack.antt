@@ -5,8 +5,9 @@ use Rattle.task_lang.specs.declared.token.Token.{Token}
 use Rattle.task_lang.specs.Tokens.{tokens_of}
 use Rattle.task_lang.specs.Reader.{whole}
 use Rattle.task_lang.specs.Faults.{Answers}
-use Rattle.task_lang.specs.Statements.{IsBody, task_with, IsTask, statements_reader}
-use Rattle.task_lang.specs.NameFaults.{name_fault}
+use Rattle.task_lang.specs.Statements.{IsBody, task_with, IsTask}
+use Rattle.task_lang.specs.StatementReaders.{statements_reader}
+use Rattle.task_lang.specs.NameFaults.{first_wrong_name}
 use Rattle.task_lang.specs.PrintedTokens.{task_tokens}
 use Rattle.task_lang.specs.ReadBack.{IsReadAs}
 use Rattle.task_lang.proofs.StatementLemmas.{bodies_read}
@@ -33,5 +34,5 @@ text_read_back sensors cells text printed task is same =
     record {
       permitted = permitted;
       only = λ other derived. one_task sensors cells task.name (tokens_of printed) other task derived permitted;
-      fine = ap (name_fault sensors cells) same ∙ again.1;
+      fine = ap (first_wrong_name sensors cells) same ∙ again.1;
     }

@@ -13,7 +13,7 @@ use Rattle.std.specs.Fmt.{decimal}
 use Rattle.rcp_base.specs.Name.{is_name, name_of}
 use Rattle.task_lang.specs.declared.token.Token.{Token}
 use Rattle.task_lang.specs.declared.token.Token.TheVariants as token
-use Rattle.task_lang.specs.Tokens.{is_blank, tail_of, lexemes_behind, number_of, number_or_word, operators, reserved, written, token_or, token_of, tokens_of}
+use Rattle.task_lang.specs.Tokens.{is_blank, tail_of, lexemes_behind, number_in, number_or_word, operators, reserved, token_in, token_or, token_of, tokens_of}
 use Rattle.task_lang.proofs.TokenLemmas.{tail_of-within}
 use Rattle.task_lang.proofs.LexemeLemmas.{digits_are_numerals}
 
@@ -85,7 +85,7 @@ sign_fine _ sign = tt
 abbrev are_signs : List (List ℕ × Token) → Bool
 are_signs table = list_all (λ (row : List ℕ × Token). is_sign row.1 && nat_le (size_of row.1) (length row.0)) table
 
-sign_held : (table : List (List ℕ × Token)) (lexeme : List ℕ) (t : Token) → are_signs table ≡ true → written table lexeme ≡ Some t → IsHeld (length lexeme) t
+sign_held : (table : List (List ℕ × Token)) (lexeme : List ℕ) (t : Token) → are_signs table ≡ true → token_in table lexeme ≡ Some t → IsHeld (length lexeme) t
 sign_held [] lexeme t signs is = cc
 sign_held (row ∷ rows) lexeme t signs is = by_case (bytes_eq lexeme row.0) refl (λ found. sign_held rows lexeme t others found) is
   where
@@ -98,7 +98,7 @@ sign_held (row ∷ rows) lexeme t signs is = by_case (bytes_eq lexeme row.0) ref
     short : size_of row.1 ≤ length row.0
     short = grind (arith, common_steps)
 
-    by_case : (same : Bool) → bytes_eq lexeme row.0 ≡ same → (written rows lexeme ≡ Some t → IsHeld (length lexeme) t) → cond same (Some row.1) (written rows lexeme) ≡ Some t → IsHeld (length lexeme) t
+    by_case : (same : Bool) → bytes_eq lexeme row.0 ≡ same → (token_in rows lexeme ≡ Some t → IsHeld (length lexeme) t) → cond same (Some row.1) (token_in rows lexeme) ≡ Some t → IsHeld (length lexeme) t
     by_case true e behind found =
         let equal : lexeme ≡ row.0 = (bytes_eq-Decides lexeme row.0).0 e in
         let this : row.1 ≡ t = cc in
@@ -110,7 +110,7 @@ digits_held : (lexeme : List ℕ) → 0 < length lexeme → list_all is_ascii_di
 digits_held lexeme some digits small =
     length-decimal-le (length lexeme) (digits_value 10 lexeme) some (digits_value-lt 10 lexeme (digits_are_numerals.to lexeme digits)) (omega arith)
 
-number_held : (lexeme : List ℕ) (n : ℤ) → number_of lexeme ≡ Some n → IsHeld (length lexeme) (token.Number n)
+number_held : (lexeme : List ℕ) (n : ℤ) → number_in lexeme ≡ Some n → IsHeld (length lexeme) (token.Number n)
 number_held lexeme n is = by_case (nat_lt 0 (length lexeme)) refl (list_all is_ascii_digit lexeme) refl (nat_lt (digits_value 10 lexeme) (2 ^ 63)) refl is
   where
     by_case : (a : Bool) → nat_lt 0 (length lexeme) ≡ a → (b : Bool) → list_all is_ascii_digit lexeme ≡ b → (c : Bool) → nat_lt (digits_value 10 lexeme) (2 ^ 63) ≡ c
@@ -124,33 +124,33 @@ number_held lexeme n is = by_case (nat_lt 0 (length lexeme)) refl (list_all is_a
     by_case true some false digits c small found = cc
     by_case true some true digits false small found = cc
 
-word_is : (lexeme : List ℕ) → written operators lexeme ≡ None → written reserved lexeme ≡ None → number_of lexeme ≡ None → is_name lexeme ≡ true
+word_is : (lexeme : List ℕ) → token_in operators lexeme ≡ None → token_in reserved lexeme ≡ None → number_in lexeme ≡ None → is_name lexeme ≡ true
     → token_of lexeme ≡ token.Word lexeme
 unfolding token_of
 word_is lexeme no_operator no_word no_number named =
-    ap (λ found. token_or found (written reserved lexeme) (number_or_word (number_of lexeme) (name_of lexeme))) no_operator
-    ∙ (ap (λ found. token_or None found (number_or_word (number_of lexeme) (name_of lexeme))) no_word
+    ap (λ found. token_or found (token_in reserved lexeme) (number_or_word (number_in lexeme) (name_of lexeme))) no_operator
+    ∙ (ap (λ found. token_or None found (number_or_word (number_in lexeme) (name_of lexeme))) no_word
     ∙ (ap (λ found. number_or_word found (name_of lexeme)) no_number ∙ ap (λ test. number_or_word None (cond test (Some lexeme) None)) named))
 
 token_held : (lexeme : List ℕ) → IsHeld (length lexeme) (token_of lexeme)
 unfolding token_of
-token_held lexeme = by_table (written operators lexeme) refl (written reserved lexeme) refl
+token_held lexeme = by_table (token_in operators lexeme) refl (token_in reserved lexeme) refl
   where
-    by_name : written operators lexeme ≡ None → written reserved lexeme ≡ None → number_of lexeme ≡ None → (test : Bool) → is_name lexeme ≡ test
+    by_name : token_in operators lexeme ≡ None → token_in reserved lexeme ≡ None → number_in lexeme ≡ None → (test : Bool) → is_name lexeme ≡ test
         → IsHeld (length lexeme) (number_or_word None (cond test (Some lexeme) None))
     by_name no_operator no_word no_number true named = ((named, word_is lexeme no_operator no_word no_number named), omega arith)
     by_name no_operator no_word no_number false named = (tt, omega arith)
 
-    by_number : written operators lexeme ≡ None → written reserved lexeme ≡ None → (found : Option ℤ) → number_of lexeme ≡ found
+    by_number : token_in operators lexeme ≡ None → token_in reserved lexeme ≡ None → (found : Option ℤ) → number_in lexeme ≡ found
         → IsHeld (length lexeme) (number_or_word found (name_of lexeme))
     by_number no_operator no_word None no_number = by_name no_operator no_word no_number (is_name lexeme) refl
     by_number no_operator no_word (Some n) is = number_held lexeme n is
 
-    by_table : (operator : Option Token) → written operators lexeme ≡ operator → (word : Option Token) → written reserved lexeme ≡ word
-        → IsHeld (length lexeme) (token_or operator word (number_or_word (number_of lexeme) (name_of lexeme)))
+    by_table : (operator : Option Token) → token_in operators lexeme ≡ operator → (word : Option Token) → token_in reserved lexeme ≡ word
+        → IsHeld (length lexeme) (token_or operator word (number_or_word (number_in lexeme) (name_of lexeme)))
     by_table (Some t) is word also = sign_held operators lexeme t refl is
     by_table None no_operator (Some t) is = sign_held reserved lexeme t refl is
-    by_table None no_operator None no_word = by_number no_operator no_word (number_of lexeme) refl
+    by_table None no_operator None no_word = by_number no_operator no_word (number_in lexeme) refl
 
 -- so are the tokens of a text
 abbrev AreHeld : ℕ → List ℕ → List (List ℕ) → Type 0

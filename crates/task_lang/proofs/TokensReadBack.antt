@@ -4,7 +4,7 @@ use Rattle.std.specs.Prelude.{flat_map}
 use Rattle.rcp_model.specs.declared.task.Task.{Task}
 use Rattle.task_lang.specs.declared.token.Token.{Token}
 use Rattle.task_lang.specs.Statements.{Statement, Many, last, next, scope_of, IsBody, let_rows, set_rows, task_with, IsTask}
-use Rattle.task_lang.specs.NameFaults.{name_fault}
+use Rattle.task_lang.specs.NameFaults.{first_wrong_name}
 use Rattle.task_lang.specs.RightNames.{earlier_behind, IsRightStatement, IsRightBody}
 use Rattle.task_lang.specs.Printing.{let_names}
 use Rattle.task_lang.specs.PrintedTokens.{let_tokens, set_tokens, task_tokens}
@@ -55,18 +55,18 @@ module _ (sensors cells : List (List ℕ)) (name : List ℕ) (statements : List 
       ap (λ lets. record { name = name; lets = lets; sets = set_rows cells statements }) (sym (same_lets statements))
       ∙ ap (λ sets. record { name = name; lets = let_rows order; sets = sets }) (sym (same_sets cells statements))
 
-  reads_back : 0 < length statements → IsTask sensors cells name printed (task_with cells name statements) × (name_fault sensors cells printed ≡ None)
+  reads_back : 0 < length statements → IsTask sensors cells name printed (task_with cells name statements) × (first_wrong_name sensors cells printed ≡ None)
   reads_back some =
       let names : IsRightBody sensors cells printed order = printed_names some in
       let body : IsBody sensors cells printed order = right_body sensors cells names in
       ((order, body, same_task), (body_names_scanned sensors cells printed order body).1 names)
 
 -- what is printed of a task that tokens with right names write, writes the same task, and its names are right
-pub tokens_read_back : (sensors cells : List (List ℕ)) (name : List ℕ) (tokens : List Token) (task : Task) → IsTask sensors cells name tokens task → name_fault sensors cells tokens ≡ None
-    → IsTask sensors cells name (task_tokens sensors cells task) task × (name_fault sensors cells (task_tokens sensors cells task) ≡ None)
+pub tokens_read_back : (sensors cells : List (List ℕ)) (name : List ℕ) (tokens : List Token) (task : Task) → IsTask sensors cells name tokens task → first_wrong_name sensors cells tokens ≡ None
+    → IsTask sensors cells name (task_tokens sensors cells task) task × (first_wrong_name sensors cells (task_tokens sensors cells task) ≡ None)
 tokens_read_back sensors cells name tokens task is none =
     let statements = is.0 in
     let names : IsRightBody sensors cells tokens statements = (body_names_scanned sensors cells tokens statements is.1).0 none in
-    let ReadsBack : Task → Type 0 = λ other. IsTask sensors cells name (task_tokens sensors cells other) other × (name_fault sensors cells (task_tokens sensors cells other) ≡ None) in
+    let ReadsBack : Task → Type 0 = λ other. IsTask sensors cells name (task_tokens sensors cells other) other × (first_wrong_name sensors cells (task_tokens sensors cells other) ≡ None) in
     subst ReadsBack (sym is.2)
     (reads_back sensors cells name statements (all_right sensors cells names) (filled (IsRightStatement sensors cells) earlier_behind names))

@@ -8,7 +8,8 @@ use Rattle.task_lang.specs.declared.token.Token.{Token}
 use Rattle.task_lang.specs.declared.token.Token.TheVariants as token
 use Rattle.task_lang.specs.declared.token.Form.{Form}
 use Rattle.task_lang.specs.declared.token.Form.TheVariants as form
-use Rattle.task_lang.specs.Words.{Scope, leaf_of, or_op, and_op, comparison_op, sum_op, product_op, is_minus, is_not, token_of_mark, Part, Sign, Inside, form_of, parts_of}
+use Rattle.task_lang.specs.Words.{Scope, leaf_of, or_op, and_op, comparison_op, sum_op, product_op, is_minus, is_not, token_of_mark}
+use Rattle.task_lang.specs.Forms.{Part, Sign, Inside, form_of_token, parts_of_form}
 use Rattle.task_lang.specs.Rules.{LeftGrouped, one, more, Compared, single, pair, plain, prefixed_by, Sequence, leaf, within, Enclosed, enclosed_by, prim_rule, unary_rule, product_rule, sum_rule, comparison_rule, inv_rule, conj_rule, expr_rule}
 use Rattle.task_lang.proofs.PrintedNames.{all_in_both}
 
@@ -73,7 +74,7 @@ MarksInner [] = Unit {0}
 MarksInner (Sign mark ∷ parts) = (is_inner (token_of_mark mark) ≡ true) × MarksInner parts
 MarksInner (Inside ∷ parts) = MarksInner parts
 
-forms_inner : (form : Form) → MarksInner (parts_of form)
+forms_inner : (form : Form) → MarksInner (parts_of_form form)
 forms_inner form.Brackets = (refl, tt)
 forms_inner form.Abs = (refl, (refl, tt))
 forms_inner form.Min = (refl, (refl, (refl, tt)))
@@ -101,8 +102,8 @@ module _ (scope : Scope) (inner : Enclosed) (inside : AllInner inner) where
   prim_inner tokens a (leaf token b is) =
       with_first token [] (listed_inner (leaf_of scope) (record { no_let = refl; no_assign = refl; no_equal = refl; no_semicolon = refl }) token b is) refl
   prim_inner tokens a (within token form is list trees derived) =
-      with_first token list (listed_inner form_of (record { no_let = refl; no_assign = refl; no_equal = refl; no_semicolon = refl }) token form is)
-      (sequence_inner inner.expr inside.expr (parts_of form) (forms_inner form) list trees derived)
+      with_first token list (listed_inner form_of_token (record { no_let = refl; no_assign = refl; no_equal = refl; no_semicolon = refl }) token form is)
+      (sequence_inner inner.expr inside.expr (parts_of_form form) (forms_inner form) list trees derived)
 
   unary_inner : WritesInner (unary_rule scope inner)
   unary_inner tokens a (plain list b derived) = prim_inner list b derived

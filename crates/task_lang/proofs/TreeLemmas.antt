@@ -7,7 +7,8 @@ use Rattle.rcp_model.specs.declared.expr.Op.TheVariants as op
 use Rattle.task_lang.specs.declared.token.Token.{Token}
 use Rattle.task_lang.specs.declared.token.Form.{Form}
 use Rattle.task_lang.specs.declared.token.Form.TheVariants as form
-use Rattle.task_lang.specs.Words.{Scope, leaf_of, or_op, and_op, sum_op, product_op, Part, Sign, Inside, parts_of, tree_of}
+use Rattle.task_lang.specs.Words.{Scope, leaf_of, or_op, and_op, sum_op, product_op}
+use Rattle.task_lang.specs.Forms.{Part, Sign, Inside, parts_of_form, tree_of}
 use Rattle.task_lang.specs.Rules.{LeftGrouped, one, more, single, pair, plain, prefixed_by, Sequence, leaf, within, Enclosed, enclosed_by, prim_rule, unary_rule, product_rule, sum_rule, comparison_rule, inv_rule, conj_rule, expr_rule}
 
 -- it holds of each tree of a sequence
@@ -39,7 +40,7 @@ pub record FormsKeep (Inner Good : Expr → Type 0) : Type 0 where
   pub choice : (test a b : Expr) → Inner test → Inner a → Inner b → Good (expr.If test a b)
 
 module _ (Inner Good : Expr → Type 0) (keep : FormsKeep Inner Good) where
-  pub form_holds : (form : Form) (trees : List Expr) → HoldsInside Inner (parts_of form) trees → Good (tree_of form trees)
+  pub form_holds : (form : Form) (trees : List Expr) → HoldsInside Inner (parts_of_form form) trees → Good (tree_of form trees)
   form_holds form.Brackets trees holds =
       subst (λ list. Good (tree_of form.Brackets list)) (sym holds.2) (keep.brackets holds.0 holds.3)
   form_holds form.Abs trees holds =
@@ -88,7 +89,7 @@ module _ (Fine : Token → Type 0) where
   back_are [] others fine = fine
   back_are (first ∷ some) others fine = back_are some others fine.1
 
-  -- so are those that are written inside a sequence
+  -- so are those that are token_in inside a sequence
   sequence_cut : (Inner : List Token → Expr → Type 0) (parts : List Part) (tokens : List Token) (trees : List Expr) → AllAre Fine tokens → Sequence Inner parts tokens trees
       → Sequence (λ tokens a. AllAre Fine tokens × Inner tokens a) parts tokens trees
   sequence_cut Inner [] tokens trees fine derived = derived
@@ -138,8 +139,8 @@ module _ (Fine : Token → Type 0) (Good : Expr → Type 0) (keep : TreesKeep Go
   prim_holds tokens a fine (leaf token b is) = leaves token b fine.0 is
   prim_holds tokens a fine (within token form is list trees derived) =
       form_holds Good Good (forms_keep Fine Good keep) form trees
-      (sequence_holds (λ tokens a. AllAre Fine tokens × inner.expr tokens a) Good (λ tokens a both. inside.expr tokens a both.0 both.1) (parts_of form) list trees
-      (sequence_cut Fine inner.expr (parts_of form) list trees fine.1 derived))
+      (sequence_holds (λ tokens a. AllAre Fine tokens × inner.expr tokens a) Good (λ tokens a both. inside.expr tokens a both.0 both.1) (parts_of_form form) list trees
+      (sequence_cut Fine inner.expr (parts_of_form form) list trees fine.1 derived))
 
   unary_holds : Holds Fine Good (unary_rule scope inner)
   unary_holds tokens a fine (plain list b derived) = prim_holds list b fine derived

@@ -18,7 +18,7 @@ abbrev pub statement_tokens : Statement → List Token → List Token
 statement_tokens (Let name value) tokens = token.Let ∷ token.Word name ∷ token.Equal ∷ tokens ++ token.Semicolon ∷ []
 statement_tokens (Set name value) tokens = token.Word name ∷ token.Assign ∷ tokens ++ token.Semicolon ∷ []
 
--- a statement is written by its value's tokens, and these write the value
+-- a statement is token_in by its value's tokens, and these write the value
 pub record IsWritten (Value : List Token → Expr → Type 0) (tokens : List Token) (statement : Statement) : Type 0 where
   pub inside : List Token
   pub cut : tokens ≡ statement_tokens statement inside

@@ -10,7 +10,7 @@ use Rattle.task_lang.specs.Tokens.{tokens_of, lefts_of}
 use Rattle.task_lang.specs.Rules.{IsExpr}
 use Rattle.task_lang.specs.Statements.{scope_of, IsTask}
 use Rattle.task_lang.specs.Faults.{IsFaultAtByte}
-use Rattle.task_lang.specs.NameFaults.{NameFault, IsUnknown, IsBadTarget, name_fault}
+use Rattle.task_lang.specs.NameFaults.{NameFault, IsUnknown, IsBadTarget, first_wrong_name}
 
 -- the text is in the grammar, and its first wrong name begins at this byte
 pub record IsNameFaultAt {X : Type 0} (Permits : List Token → X → Type 0) (found : Option (NameFault × ℕ)) (fault : NameFault) (text : List ℕ) (byte : ℕ) : Type 0 where
@@ -26,7 +26,7 @@ pub record IsOnly {X : Type 0} (Permits : List Token → X → Type 0) (found : 
   pub only : (other : X) → Permits (tokens_of text) other → other ≡ tree
   pub fine : found ≡ None
 
--- the answer is right by a grammar and a scan of names; memory may always be wanting
+-- the answer is right by a grammar and a scan of names; memory may always run out
 abbrev pub IsAnswer : {X : Type 0} → (List Token → X → Type 0) → Option (NameFault × ℕ) → List ℕ → Result X LangFault → Type 0
 IsAnswer Permits found text (Ok tree) = IsOnly Permits found text tree
 IsAnswer Permits found text (Err (Syntax byte)) = IsFaultAtByte Permits text byte
@@ -36,8 +36,8 @@ IsAnswer Permits found text (Err Memory) = ⊤
 
 -- the answer to an expression's text
 abbrev pub IsExprAnswer : List (List ℕ) → List (List ℕ) → List ℕ → Result Expr LangFault → Type 0
-IsExprAnswer sensors cells text answer = IsAnswer (IsExpr (scope_of sensors cells [])) (name_fault sensors cells (tokens_of text)) text answer
+IsExprAnswer sensors cells text answer = IsAnswer (IsExpr (scope_of sensors cells [])) (first_wrong_name sensors cells (tokens_of text)) text answer
 
 -- the answer to the text of a body, for the task of this name
 abbrev pub IsBodyAnswer : List (List ℕ) → List (List ℕ) → List ℕ → List ℕ → Result Task LangFault → Type 0
-IsBodyAnswer sensors cells name text answer = IsAnswer (IsTask sensors cells name) (name_fault sensors cells (tokens_of text)) text answer
+IsBodyAnswer sensors cells name text answer = IsAnswer (IsTask sensors cells name) (first_wrong_name sensors cells (tokens_of text)) text answer

@@ -7,8 +7,9 @@ pub use Rattle.task_lang.specs.declared.scan.NameFault.{NameFault}
 pub use Rattle.task_lang.specs.declared.scan.NameFault.TheVariants.{IsUnknown, IsBadTarget}
 pub use Rattle.task_lang.specs.declared.scan.Role.{Role}
 pub use Rattle.task_lang.specs.declared.scan.Role.TheVariants.{NewLet, SetCell, Operand}
-use Rattle.task_lang.specs.Words.{Scope, place_in}
-use Rattle.task_lang.specs.Reader.{choose}
+use Rattle.task_lang.specs.Words.{Scope}
+use Rattle.rcp_base.specs.Answers.{place_in}
+use Rattle.task_lang.specs.ReaderParts.{choose}
 use Rattle.task_lang.specs.Statements.{scope_of, word_of}
 
 -- what the tokens before have named
@@ -27,12 +28,12 @@ abbrev pub names_begun : Option (List ℕ) → List (List ℕ)
 names_begun None = []
 names_begun (Some name) = name ∷ []
 
-abbrev pub is_among : List (List ℕ) → List ℕ → Bool
-is_among names name = is_some (place_in names name)
+abbrev pub has_name : List (List ℕ) → List ℕ → Bool
+has_name names name = is_some (place_in names name)
 
 -- an expression may use the name
 abbrev pub is_in_scope : Scope → List ℕ → Bool
-is_in_scope scope name = is_among scope.sensors name || is_among scope.cells name || is_among scope.lets name
+is_in_scope scope name = has_name scope.sensors name || has_name scope.cells name || has_name scope.lets name
 
 abbrev pub begins_with_assign : List Token → Bool
 begins_with_assign (token.Assign ∷ rest) = true
@@ -45,7 +46,7 @@ role_before seen rest = if seen.behind_let then NewLet else if begins_with_assig
 -- what is wrong with a name in its role: a new let has a new name, and a cell is set once
 abbrev pub fault_in : Seen → Role → List ℕ → Option NameFault
 fault_in seen NewLet name = if is_in_scope seen.scope name then Some IsBadTarget else None
-fault_in seen SetCell name = if is_among seen.scope.cells name && not (is_among seen.set name) then None else Some IsBadTarget
+fault_in seen SetCell name = if has_name seen.scope.cells name && not (has_name seen.set name) then None else Some IsBadTarget
 fault_in seen Operand name = if is_in_scope seen.scope name then None else Some IsUnknown
 
 -- behind a name
@@ -65,17 +66,17 @@ seen_behind seen token.Semicolon = record seen { scope = scope_at_end seen; begu
 seen_behind seen _ = record seen { behind_let = false }
 
 -- the first name that is wrong, with how many tokens are left there
-abbrev pub first_fault : Seen → List Token → Option (NameFault × ℕ)
-first_fault seen [] = None
-first_fault seen (first ∷ rest) =
-    choose (word_of first) (first_fault (seen_behind seen first) rest)
+abbrev pub wrong_name_from : Seen → List Token → Option (NameFault × ℕ)
+wrong_name_from seen [] = None
+wrong_name_from seen (first ∷ rest) =
+    choose (word_of first) (wrong_name_from (seen_behind seen first) rest)
     (λ name.
-    choose (fault_in seen (role_before seen rest) name) (first_fault (seen_behind_name seen (role_before seen rest) name) rest)
+    choose (fault_in seen (role_before seen rest) name) (wrong_name_from (seen_behind_name seen (role_before seen rest) name) rest)
     (λ fault. Some (fault, suc (length rest))))
 
 abbrev pub nothing_seen : List (List ℕ) → List (List ℕ) → Seen
 nothing_seen sensors cells = record { scope = scope_of sensors cells []; begun = []; set = []; behind_let = false }
 
 -- the first wrong name of an expression or a body over these sensors and cells
-unfoldable pub name_fault : List (List ℕ) → List (List ℕ) → List Token → Option (NameFault × ℕ)
-name_fault sensors cells tokens = first_fault (nothing_seen sensors cells) tokens
+unfoldable pub first_wrong_name : List (List ℕ) → List (List ℕ) → List Token → Option (NameFault × ℕ)
+first_wrong_name sensors cells tokens = wrong_name_from (nothing_seen sensors cells) tokens

@@ -11,7 +11,8 @@ use Rattle.rcp_model.specs.declared.task.Task.{Task}
 use Rattle.task_lang.specs.declared.token.Token.{Token}
 use Rattle.task_lang.specs.declared.token.Token.TheVariants as token
 use Rattle.task_lang.specs.Words.{Scope}
-use Rattle.task_lang.specs.Printing.{level_of, left_place, is_call, name_at, whole_scope}
+use Rattle.task_lang.specs.Signs.{level_of, left_place, is_call}
+use Rattle.task_lang.specs.Printing.{name_at, whole_scope}
 
 -- the tokens of an expression without brackets round it, and its level
 pub record PrintedTokens : Type 0 where

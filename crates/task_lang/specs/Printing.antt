@@ -1,14 +1,14 @@
 -- What is printed of an expression and of a task: as few brackets as the levels of the grammar leave.
 -- This project's own.
-use Rattle.std.specs.Prelude.{ℕ, suc, nat_lt, Bool, true, false, List, [], ◌∷◌, ◌++◌, map, codes, slice_index_or, if◌then◌else◌}
+use Rattle.std.specs.Prelude.{ℕ, suc, nat_lt, List, [], ◌∷◌, ◌++◌, map, codes, slice_index_or, if◌then◌else◌}
 use Rattle.std.specs.Fmt.{signed_decimal}
 use Rattle.rcp_model.specs.declared.expr.Expr.{Expr, fold-Expr}
 use Rattle.rcp_model.specs.declared.expr.Expr.TheOpen.{Expr-F}
 use Rattle.rcp_model.specs.declared.expr.Op.{Op}
-use Rattle.rcp_model.specs.declared.expr.Op.TheVariants as op
 use Rattle.rcp_model.specs.declared.task.LetRow.{LetRow}
 use Rattle.rcp_model.specs.declared.task.SetRow.{SetRow}
 use Rattle.rcp_model.specs.declared.task.Task.{Task}
+use Rattle.task_lang.specs.Signs.{sign_of, level_of, left_place, is_call}
 use Rattle.task_lang.specs.Words.{Scope}
 use Rattle.task_lang.specs.Statements.{scope_of}
 
@@ -20,57 +20,6 @@ pub record Printed : Type 0 where
 -- in brackets where its level is below the least level of its place
 abbrev pub placed : ℕ → Printed → List ℕ
 placed least printed = if nat_lt printed.level least then codes "(" ++ printed.text ++ codes ")" else printed.text
-
--- the sign of an operator, or its word where it is printed as a call
-abbrev pub sign_of : Op → List ℕ
-sign_of op.Or = codes "or"
-sign_of op.And = codes "and"
-sign_of op.Eq = codes "=="
-sign_of op.Ne = codes "!="
-sign_of op.Lt = codes "<"
-sign_of op.Le = codes "<="
-sign_of op.Gt = codes ">"
-sign_of op.Ge = codes ">="
-sign_of op.Add = codes "+"
-sign_of op.Sub = codes "-"
-sign_of op.Mul = codes "*"
-sign_of op.Div = codes "/"
-sign_of op.Rem = codes "%"
-sign_of op.Min = codes "min"
-sign_of op.Max = codes "max"
-
--- the level of what an operator makes
-abbrev pub level_of : Op → ℕ
-level_of op.Or = 1
-level_of op.And = 2
-level_of op.Eq = 4
-level_of op.Ne = 4
-level_of op.Lt = 4
-level_of op.Le = 4
-level_of op.Gt = 4
-level_of op.Ge = 4
-level_of op.Add = 5
-level_of op.Sub = 5
-level_of op.Mul = 6
-level_of op.Div = 6
-level_of op.Rem = 6
-level_of op.Min = 8
-level_of op.Max = 8
-
--- the least level of its left place: its own, since it groups to the left, but comparisons do not chain
-abbrev pub left_place : Op → ℕ
-left_place op.Eq = 5
-left_place op.Ne = 5
-left_place op.Lt = 5
-left_place op.Le = 5
-left_place op.Gt = 5
-left_place op.Ge = 5
-left_place operator = level_of operator
-
-abbrev pub is_call : Op → Bool
-is_call op.Min = true
-is_call op.Max = true
-is_call _ = false
 
 -- whole expressions with commas between them
 abbrev pub listed : List Printed → List ℕ
@@ -132,12 +81,12 @@ abbrev pub set_text : Scope → SetRow → List ℕ
 set_text scope row = name_at scope.cells row.cell ++ codes " := " ++ expr_text scope row.value ++ codes ";"
 
 -- texts with one space between them
-abbrev pub spaced : List (List ℕ) → List ℕ
-spaced [] = []
-spaced (text ∷ []) = text
-spaced (text ∷ other ∷ others) = text ++ codes " " ++ spaced (other ∷ others)
+abbrev pub with_spaces : List (List ℕ) → List ℕ
+with_spaces [] = []
+with_spaces (text ∷ []) = text
+with_spaces (text ∷ other ∷ others) = text ++ codes " " ++ with_spaces (other ∷ others)
 
 -- a task's lets in order, then its sets in order
 unfoldable pub task_text : List (List ℕ) → List (List ℕ) → Task → List ℕ
 task_text sensors cells task =
-    let scope = whole_scope sensors cells task in spaced (map (let_text scope) task.lets ++ map (set_text scope) task.sets)
+    let scope = whole_scope sensors cells task in with_spaces (map (let_text scope) task.lets ++ map (set_text scope) task.sets)

@@ -10,7 +10,8 @@ use Rattle.task_lang.specs.Tokens.{tokens_of, lefts_of}
 use Rattle.task_lang.specs.Words.{Scope}
 use Rattle.task_lang.specs.Rules.{IsExpr}
 use Rattle.task_lang.specs.Reader.{whole, expr_reader, readers}
-use Rattle.task_lang.specs.Statements.{IsBody, statements_reader}
+use Rattle.task_lang.specs.Statements.{IsBody}
+use Rattle.task_lang.specs.StatementReaders.{statements_reader}
 use Rattle.task_lang.specs.Faults.{IsFaultAt, Answers}
 use Rattle.task_lang.specs.Answers.{IsExprAnswer, IsBodyAnswer}
 use Rattle.task_lang.specs.TextReaders.{read_expr, read_body}
@@ -25,7 +26,7 @@ abbrev pub BodiesAreRead : Type 0
 BodiesAreRead =
     (sensors cells : List (List ℕ)) (tokens : List Token) → Answers (IsBody sensors cells) tokens (whole (statements_reader 64 sensors cells) tokens)
 
--- a text has one answer, apart from want of memory
+-- a text has one answer, unless memory runs out
 abbrev pub HasOneAnswer : {X : Type 0} → (Result X LangFault → Type 0) → Type 0
 HasOneAnswer {X} IsRight = (a b : Result X LangFault) → IsRight a → IsRight b → ((a ≡ Err Memory) ⊎ (b ≡ Err Memory)) ⊎ (a ≡ b)
 
@@ -60,7 +61,7 @@ NamesMoveNoBodyFault =
     (sensors cells other_sensors other_cells : List (List ℕ)) (tokens : List Token) (n : ℕ)
     → IsFaultAt (IsBody sensors cells) tokens n → IsFaultAt (IsBody other_sensors other_cells) tokens n
 
--- each right answer is the reader's, unless memory was wanting
+-- each right answer is the reader's, unless memory ran out
 abbrev pub IsReadersAnswer : {X : Type 0} → Result X LangFault → Result X LangFault → Type 0
 IsReadersAnswer said answer = (answer ≡ Err Memory) ⊎ (answer ≡ said)
 

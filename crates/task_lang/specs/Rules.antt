@@ -6,7 +6,8 @@ use Rattle.rcp_model.specs.declared.expr.Expr.TheVariants as expr
 use Rattle.rcp_model.specs.declared.expr.Op.{Op}
 use Rattle.task_lang.specs.declared.token.Token.{Token}
 use Rattle.task_lang.specs.declared.token.Form.{Form}
-use Rattle.task_lang.specs.Words.{Scope, leaf_of, or_op, and_op, comparison_op, sum_op, product_op, is_not, is_minus, token_of_mark, Part, Sign, Inside, form_of, parts_of, tree_of}
+use Rattle.task_lang.specs.Words.{Scope, leaf_of, or_op, and_op, comparison_op, sum_op, product_op, is_not, is_minus, token_of_mark}
+use Rattle.task_lang.specs.Forms.{Part, Sign, Inside, form_of_token, parts_of_form, tree_of}
 
 -- which tokens write which tree
 abbrev pub Rule : Type 0 → Type 1
@@ -43,8 +44,8 @@ Sequence Inner (Inside ∷ parts) tokens trees =
 -- a number, a name, or a form
 pub data IsPrim (scope : Scope) (Inner : List Token → Expr → Type 0) : List Token → Expr → Type 0 where
   leaf : (token : Token) (a : Expr) → leaf_of scope token ≡ Some a → IsPrim scope Inner (token ∷ []) a
-  within : (token : Token) (form : Form) → form_of token ≡ Some form
-      → (tokens : List Token) (trees : List Expr) → Sequence Inner (parts_of form) tokens trees
+  within : (token : Token) (form : Form) → form_of_token token ≡ Some form
+      → (tokens : List Token) (trees : List Expr) → Sequence Inner (parts_of_form form) tokens trees
       → IsPrim scope Inner (token ∷ tokens) (tree_of form trees)
 
 -- the rules for what brackets and prefixes enclose

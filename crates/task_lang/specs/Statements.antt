@@ -1,6 +1,7 @@
--- The grammar of statements and bodies, and a reader for it.
+-- The grammar of statements and bodies.
 -- This project's own.
-use Rattle.std.specs.Prelude.{ℕ, zero, suc, ◌≡◌, List, [], ◌∷◌, ◌++◌, length, unwrap_or, Option, Some, None, Result, Ok, Err}
+use Rattle.std.specs.Prelude.{ℕ, ◌≡◌, List, [], ◌∷◌, ◌++◌, unwrap_or, Option, Some, None}
+use Rattle.rcp_base.specs.Answers.{place_in}
 use Rattle.rcp_model.specs.declared.expr.Expr.{Expr}
 use Rattle.rcp_model.specs.declared.task.LetRow.{LetRow}
 use Rattle.rcp_model.specs.declared.task.SetRow.{SetRow}
@@ -11,9 +12,9 @@ use Rattle.task_lang.specs.declared.token.Mark.{Mark}
 use Rattle.task_lang.specs.declared.token.Mark.TheVariants as mark
 pub use Rattle.task_lang.specs.declared.statements.Statement.{Statement}
 pub use Rattle.task_lang.specs.declared.statements.Statement.TheVariants.{Let, Set}
-use Rattle.task_lang.specs.Words.{Scope, place_in, stand_in, is_let, Part, Sign, Inside}
+use Rattle.task_lang.specs.Words.{Scope, is_let}
+use Rattle.task_lang.specs.Forms.{Part, Sign, Inside}
 use Rattle.task_lang.specs.Rules.{Prefixed, Sequence, expr_rule, enclosed_by}
-use Rattle.task_lang.specs.Reader.{◌>>=◌, choose, Reader, bound, made, prefixed, sequence, expr_reader, readers, whole}
 
 -- what stands behind a statement's name
 abbrev pub parts_behind : Mark → List Part
@@ -73,48 +74,7 @@ abbrev pub IsTask : List (List ℕ) → List (List ℕ) → List ℕ → List To
 IsTask sensors cells name tokens task =
     (statements : List Statement) × IsBody sensors cells tokens statements × (task ≡ task_with cells name statements)
 
--- a reader for each rule
-
+-- the name that a token is
 abbrev pub word_of : Token → Option (List ℕ)
 word_of (token.Word name) = Some name
 word_of _ = None
-
--- the one tree of a list of one
-abbrev pub only : List Expr → Expr
-only [] = stand_in
-only (value ∷ _) = value
-
-abbrev pub named_reader : Mark → (List ℕ → Expr → Statement) → Reader Expr → Reader Statement
-named_reader mark make read [] = Err 0
-named_reader mark make read (token ∷ rest) =
-    choose (word_of token) (Err (suc (length rest))) (λ name. sequence read (parts_behind mark) rest >>= made (λ trees. make name (only trees)))
-
--- the statement that has this mark behind its name
-abbrev pub statement_of : Mark → List ℕ → Expr → Statement
-statement_of mark.Equal name value = Let name value
-statement_of _ name value = Set name value
-
-abbrev pub statement_reader : Reader Expr → Reader Statement
-statement_reader read = prefixed is_let (λ statement. statement) (Some (named_reader mark.Equal Let read)) (named_reader mark.Assign Set read)
-
--- those behind one, if there are any
-abbrev pub then_more : {Left X : Type 0} → (Left → X → Left) → (Left → Reader (List X)) → Left → X → Reader (List X)
-then_more leave read left x [] = Ok (x ∷ [], [])
-then_more leave read left x (token ∷ rest) = read (leave left x) (token ∷ rest) >>= made (λ others. x ∷ others)
-
--- less than n
-abbrev pub many_below : {Left X : Type 0} → (Left → X → Left) → (Left → Reader X) → ℕ → Left → Reader (List X)
-many_below leave read zero left tokens = Err (length tokens)
-many_below leave read (suc n) left tokens = bound (read left) (then_more leave (many_below leave read n) left) tokens
-
--- to the end of the tokens
-abbrev pub many : {Left X : Type 0} → (Left → X → Left) → (Left → Reader X) → Left → Reader (List X)
-many leave read left tokens = many_below leave read (suc (length tokens)) left tokens
-
-abbrev pub statements_reader : ℕ → List (List ℕ) → List (List ℕ) → Reader (List Statement)
-statements_reader n sensors cells =
-    many lets_behind (λ lets. let scope = scope_of sensors cells lets in statement_reader (expr_reader scope (readers scope n))) []
-
--- the task of this name that all of the tokens write
-unfoldable pub read_task : ℕ → List (List ℕ) → List (List ℕ) → List ℕ → List Token → Result Task ℕ
-read_task n sensors cells name tokens = whole (statements_reader n sensors cells) tokens >>= λ statements. Ok (task_with cells name statements)

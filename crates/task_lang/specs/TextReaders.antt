@@ -9,8 +9,9 @@ use Rattle.task_lang.specs.declared.reader.ReadFault.{ReadFault}
 use Rattle.task_lang.specs.declared.reader.ReadFault.TheVariants as fault
 use Rattle.task_lang.specs.Tokens.{tokens_of, lefts_of}
 use Rattle.task_lang.specs.Reader.{whole, expr_reader, readers}
-use Rattle.task_lang.specs.Statements.{scope_of, read_task}
-use Rattle.task_lang.specs.NameFaults.{NameFault, IsUnknown, IsBadTarget, name_fault}
+use Rattle.task_lang.specs.Statements.{scope_of}
+use Rattle.task_lang.specs.StatementReaders.{read_task}
+use Rattle.task_lang.specs.NameFaults.{NameFault, IsUnknown, IsBadTarget, first_wrong_name}
 
 -- the byte of the token where so many are left, or the text's length
 abbrev pub byte_at : List ℕ → ℕ → ℕ
@@ -40,9 +41,9 @@ text_answer text (Err left) found = Err (Syntax (byte_at text left))
 unfoldable pub read_expr : List (List ℕ) → List (List ℕ) → List ℕ → Result Expr LangFault
 read_expr sensors cells text =
     let scope = scope_of sensors cells [] in
-    text_answer text (whole (expr_reader scope (readers scope 64)) (tokens_of text)) (name_fault sensors cells (tokens_of text))
+    text_answer text (whole (expr_reader scope (readers scope 64)) (tokens_of text)) (first_wrong_name sensors cells (tokens_of text))
 
 -- the task of this name whose body is a text over these sensors and cells
 unfoldable pub read_body : List (List ℕ) → List (List ℕ) → List ℕ → List ℕ → Result Task LangFault
 read_body sensors cells name text =
-    text_answer text (read_task 64 sensors cells name (tokens_of text)) (name_fault sensors cells (tokens_of text))
+    text_answer text (read_task 64 sensors cells name (tokens_of text)) (first_wrong_name sensors cells (tokens_of text))

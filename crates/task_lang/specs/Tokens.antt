@@ -46,8 +46,8 @@ unfoldable pub lefts_of : List ℕ → List ℕ
 lefts_of text = lefts_behind 0 text
 
 -- the number that a text of digits writes, if it is below 2^63
-abbrev pub number_of : List ℕ → Option ℤ
-number_of text =
+abbrev pub number_in : List ℕ → Option ℤ
+number_in text =
     if nat_lt 0 (length text) && list_all is_ascii_digit text && nat_lt (digits_value 10 text) (2 ^ 63)
     then Some (pos (digits_value 10 text)) else None
 
@@ -74,9 +74,9 @@ reserved =
     ∷ (codes "if", token.If) ∷ []
 
 -- the token that a table has for a text
-abbrev pub written : List (List ℕ × Token) → List ℕ → Option Token
-written [] lexeme = None
-written (row ∷ rows) lexeme = if bytes_eq lexeme row.0 then Some row.1 else written rows lexeme
+abbrev pub token_in : List (List ℕ × Token) → List ℕ → Option Token
+token_in [] lexeme = None
+token_in (row ∷ rows) lexeme = if bytes_eq lexeme row.0 then Some row.1 else token_in rows lexeme
 
 -- the first of two, or the second, or a third
 abbrev pub token_or : Option Token → Option Token → Token → Token
@@ -84,10 +84,10 @@ token_or (Some token) _ _ = token
 token_or None (Some token) _ = token
 token_or None None token = token
 
--- the token that is written so
+-- the token that is token_in so
 unfoldable pub token_of : List ℕ → Token
 token_of lexeme =
-    token_or (written operators lexeme) (written reserved lexeme) (number_or_word (number_of lexeme) (name_of lexeme))
+    token_or (token_in operators lexeme) (token_in reserved lexeme) (number_or_word (number_in lexeme) (name_of lexeme))
 
 -- the tokens of a text, in its order
 unfoldable pub tokens_of : List ℕ → List Token

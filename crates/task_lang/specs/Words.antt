@@ -1,7 +1,7 @@
--- What the tokens of the task language stand for: its operators, its prefixes, and its forms with their parts.
+-- What the tokens of the task language stand for: its names, its operators, its prefixes and its marks.
 -- This project's own.
-use Rattle.std.specs.Prelude.{ℕ, pos, Bool, true, false, List, [], ◌∷◌, position, Option, Some, None}
-use Rattle.std.specs.Str.{bytes_eq}
+use Rattle.std.specs.Prelude.{ℕ, pos, Bool, true, false, List, Option, Some, None}
+use Rattle.rcp_base.specs.Answers.{place_in}
 use Rattle.rcp_model.specs.declared.expr.Expr.{Expr}
 use Rattle.rcp_model.specs.declared.expr.Expr.TheVariants as expr
 use Rattle.rcp_model.specs.declared.expr.Op.{Op}
@@ -10,18 +10,12 @@ use Rattle.task_lang.specs.declared.token.Token.{Token}
 use Rattle.task_lang.specs.declared.token.Token.TheVariants as token
 use Rattle.task_lang.specs.declared.token.Mark.{Mark}
 use Rattle.task_lang.specs.declared.token.Mark.TheVariants as mark
-use Rattle.task_lang.specs.declared.token.Form.{Form}
-use Rattle.task_lang.specs.declared.token.Form.TheVariants as form
 
 -- the names that an expression may use
 pub record Scope : Type 0 where
   pub sensors : List (List ℕ)
   pub cells : List (List ℕ)
   pub lets : List (List ℕ)
-
--- the first place of a name
-abbrev pub place_in : List (List ℕ) → List ℕ → Option ℕ
-place_in names name = position (bytes_eq name) names
 
 -- what stands for a name that is not in scope, so that the grammar does not hang on the names
 abbrev pub stand_in : Expr
@@ -103,46 +97,3 @@ is_mark mark.Assign token.Assign = true
 is_mark mark.Equal token.Equal = true
 is_mark mark.Semicolon token.Semicolon = true
 is_mark _ _ = false
-
--- what forms and statements are made of: marks, and expressions between them
-pub data Part : Type 0 where
-  Sign : Mark → Part
-  Inside : Part
-
--- the form that a token begins
-abbrev pub form_of : Token → Option Form
-form_of token.Open = Some form.Brackets
-form_of token.Abs = Some form.Abs
-form_of token.Min = Some form.Min
-form_of token.Max = Some form.Max
-form_of token.Clamp = Some form.Clamp
-form_of token.If = Some form.If
-form_of _ = None
-
-abbrev pub one_argument : List Part
-one_argument = Sign mark.Open ∷ Inside ∷ Sign mark.Close ∷ []
-
-abbrev pub two_arguments : List Part
-two_arguments = Sign mark.Open ∷ Inside ∷ Sign mark.Comma ∷ Inside ∷ Sign mark.Close ∷ []
-
-abbrev pub three_arguments : List Part
-three_arguments = Sign mark.Open ∷ Inside ∷ Sign mark.Comma ∷ Inside ∷ Sign mark.Comma ∷ Inside ∷ Sign mark.Close ∷ []
-
--- what stands behind the token that begins a form
-abbrev pub parts_of : Form → List Part
-parts_of form.Brackets = Inside ∷ Sign mark.Close ∷ []
-parts_of form.Abs = one_argument
-parts_of form.Min = two_arguments
-parts_of form.Max = two_arguments
-parts_of form.Clamp = three_arguments
-parts_of form.If = three_arguments
-
--- the tree of a form, from those inside it
-abbrev pub tree_of : Form → List Expr → Expr
-tree_of form.Brackets (a ∷ _) = a
-tree_of form.Abs (a ∷ _) = expr.Abs a
-tree_of form.Min (a ∷ b ∷ _) = expr.Two op.Min a b
-tree_of form.Max (a ∷ b ∷ _) = expr.Two op.Max a b
-tree_of form.Clamp (a ∷ b ∷ c ∷ _) = expr.Clamp a b c
-tree_of form.If (a ∷ b ∷ c ∷ _) = expr.If a b c
-tree_of _ _ = stand_in

@@ -17,8 +17,8 @@ pub enum LangFault {
     /// The byte is the name's first.
     #[error("a name that may not be given a value at byte {byte}")]
     BadTarget { byte: u32 },
-    /// Memory was wanting, which says nothing of the text.
-    #[error("memory was wanting")]
+    /// Memory ran out, which says nothing of the text.
+    #[error("memory ran out")]
     Memory,
 }
 

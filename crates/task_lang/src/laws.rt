@@ -16,7 +16,7 @@ pub fn bodies_are_read()
     ensures { BodiesAreRead }
 {}
 
-/// A text has one answer as an expression, and one as a body, apart from want of memory.
+/// A text has one answer as an expression, and one as a body, unless memory runs out.
 pub fn texts_have_one_answer()
     ensures expressions { ExpressionsHaveOneAnswer }
     ensures bodies { BodiesHaveOneAnswer }
@@ -33,7 +33,7 @@ pub fn texts_are_read()
     ensures bodies { BodyTextsAreRead }
 {}
 
-/// A right answer to a text is that of the reader of texts, unless memory was wanting.
+/// A right answer to a text is that of the reader of texts, unless memory ran out.
 pub fn right_answers_are_read()
     ensures expressions { ExpressionAnswersAreRead }
     ensures bodies { BodyAnswersAreRead }

@@ -101,7 +101,7 @@ fn token_of_text(text: &str) -> Token
 }
 
 fn operator_of(text: &str) -> Option<Token>
-    ensures { result ≡ spec.written spec.operators text.now }
+    ensures { result ≡ spec.token_in spec.operators text.now }
 {
     match text {
         ":=" => Some(Token::Assign),
@@ -126,7 +126,7 @@ fn operator_of(text: &str) -> Option<Token>
 }
 
 fn reserved_of(text: &str) -> Option<Token>
-    ensures { result ≡ spec.written spec.reserved text.now }
+    ensures { result ≡ spec.token_in spec.reserved text.now }
 {
     match text {
         "let" => Some(Token::Let),
@@ -143,7 +143,7 @@ fn reserved_of(text: &str) -> Option<Token>
 }
 
 fn number_or_word(text: &str) -> Token
-    ensures { result ≡ spec.number_or_word (spec.number_of text.now) (name_of text.now) }
+    ensures { result ≡ spec.number_or_word (spec.number_in text.now) (name_of text.now) }
 {
     match (number_of(text), Name::read(text)) {
         (Some(number), _) => Token::Number(number),
@@ -155,7 +155,7 @@ fn number_or_word(text: &str) -> Token
 // The number that a text of digits writes, if it is below 2^63.
 #[tactic(auto, using(crate::proofs::LexemeLemmas::number_of_parsed))]
 fn number_of(text: &str) -> Option<i64>
-    ensures { result ≡ spec.number_of text.now }
+    ensures { result ≡ spec.number_in text.now }
 {
     if !are_digits(text) {
         return None;

@@ -1,9 +1,10 @@
 //! The names in scope.
 //! This project's own.
 ghost use Rattle.std.specs.Prelude.{◌≡◌, ◌≤◌, ◌<◌, length, IfSome};
-ghost use Rattle.task_lang.specs.Words.{named_by, place_in};
+ghost use Rattle.task_lang.specs.Words.{named_by};
+ghost use Rattle.rcp_base.specs.Answers.{place_in};
 ghost use Rattle.task_lang.specs.Statements.{scope_of};
-ghost use Rattle.task_lang.specs.Scopes.{IsShort};
+ghost use Rattle.task_lang.specs.inner.Scopes.{IsShort};
 
 use rcp_base::Name;
 use rcp_model::Expr;
@@ -20,7 +21,7 @@ pub struct Names<'a> {
 impl<'a> Model for Names<'a> {
     ghost use Rattle.task_lang.specs.Words.{Scope};
     ghost use Rattle.task_lang.specs.Statements.{scope_of};
-    ghost use Rattle.task_lang.specs.Scopes.{IsShort};
+    ghost use Rattle.task_lang.specs.inner.Scopes.{IsShort};
 
     ghost Value = { Scope };
 

@@ -6,7 +6,7 @@ ghost use Rattle.task_lang.specs.TextReaders as spec;
 ghost use Rattle.task_lang.specs.Tokens.{tokens_of, lefts_of};
 
 use crate::reader::{ReadFault, expr_of};
-use crate::scan::{NameFault, name_fault};
+use crate::scan::{NameFault, first_wrong_name};
 use crate::statements::task_of;
 use crate::{LangFault, lexer};
 use rcp_base::Name;
@@ -18,7 +18,7 @@ use std::alloc::Global;
 ///
 /// # Errors
 /// `Syntax` where the text is not in the grammar, else `UnknownName` or `BadTarget` at the first name that is wrong, each with its byte.
-/// `Memory` where memory was wanting.
+/// `Memory` where memory ran out.
 pub fn parse_body(
     alloc: Global,
     name: Name,
@@ -37,7 +37,7 @@ pub fn parse_body(
         Ok(task) => task,
         Err(fault) => return Err(fault_of_syntax(text, lefts.as_slice(), fault)),
     };
-    match name_fault(alloc, sensors, cells, tokens)? {
+    match first_wrong_name(alloc, sensors, cells, tokens)? {
         None => Ok(task),
         Some((fault, left)) => Err(fault_of_name(text, lefts.as_slice(), fault, left)),
     }
@@ -48,7 +48,7 @@ pub fn parse_body(
 ///
 /// # Errors
 /// `Syntax` where the text is not in the grammar, else `UnknownName` at the first name that is neither a sensor nor a cell, each with its byte.
-/// `Memory` where memory was wanting.
+/// `Memory` where memory ran out.
 pub fn parse_expr(
     alloc: Global,
     text: &str,
@@ -66,7 +66,7 @@ pub fn parse_expr(
         Ok(tree) => tree,
         Err(fault) => return Err(fault_of_syntax(text, lefts.as_slice(), fault)),
     };
-    match name_fault(alloc, sensors, cells, tokens)? {
+    match first_wrong_name(alloc, sensors, cells, tokens)? {
         None => Ok(tree),
         Some((fault, left)) => Err(fault_of_name(text, lefts.as_slice(), fault, left)),
     }

@@ -3,6 +3,7 @@
 ghost use Rattle.std.specs.Prelude.{◌≡◌, [], ◌∷◌, ◌++◌, flat_map, ℕ, List, length, OnOk, IfOk, codes};
 ghost use Rattle.task_lang.specs.Words.{Scope};
 ghost use Rattle.task_lang.specs.Printing as spec;
+ghost use Rattle.task_lang.specs.Signs as signs;
 ghost use Rattle.task_lang.specs.Printing.{placed, printed};
 ghost use Rattle.task_lang.specs.ReadBack.{IsReadAs, ReadsBack};
 
@@ -48,7 +49,8 @@ fn put_placed(
 // Adds an expression in brackets.
 #[cycle(printer)]
 fn put_bracketed(alloc: Global, out: &mut List<u8>, labels: &Labels, e: &Expr) -> Result<(), Memory>
-    ensures { OnOk result (out.new ≡ out.old ++ (codes "(" ++ (printed labels.now e.now).text ++ codes ")")) }
+    ensures { OnOk result
+        (out.new ≡ out.old ++ (codes "(" ++ (printed labels.now e.now).text ++ codes ")")) }
 {
     put(out, b"(")?;
     put_bare(alloc, out, labels, e)?;
@@ -91,7 +93,8 @@ fn put_call(
     word: &str,
     a: &Expr,
 ) -> Result<(), Memory>
-    ensures { OnOk result (out.new ≡ out.old ++ (spec.call word.now (printed labels.now a.now ∷ [])).text) }
+    ensures { OnOk result
+        (out.new ≡ out.old ++ (spec.call word.now (printed labels.now a.now ∷ [])).text) }
 {
     put(out, word.as_bytes())?;
     put(out, b"(")?;
@@ -110,7 +113,8 @@ fn put_triple(
     b: &Expr,
     c: &Expr,
 ) -> Result<(), Memory>
-    ensures { OnOk result (out.new ≡ out.old ++ (spec.call word.now (printed labels.now a.now ∷ printed labels.now b.now ∷ printed labels.now c.now ∷ [])).text) }
+    ensures { OnOk result (out.new ≡ out.old ++ (spec.call word.now (printed labels.now a.now
+        ∷ printed labels.now b.now ∷ printed labels.now c.now ∷ [])).text) }
 {
     put(out, word.as_bytes())?;
     put(out, b"(")?;
@@ -132,7 +136,8 @@ fn put_two(
     a: &Expr,
     b: &Expr,
 ) -> Result<(), Memory>
-    ensures { OnOk result (out.new ≡ out.old ++ (spec.two op (printed labels.now a.now) (printed labels.now b.now)).text) }
+    ensures { OnOk result (out.new
+        ≡ out.old ++ (spec.two op (printed labels.now a.now) (printed labels.now b.now)).text) }
 {
     if is_call(op) {
         put_pair(alloc, out, labels, sign_of(op), a, b)
@@ -151,7 +156,8 @@ fn put_pair(
     a: &Expr,
     b: &Expr,
 ) -> Result<(), Memory>
-    ensures { OnOk result (out.new ≡ out.old ++ (spec.call word.now (printed labels.now a.now ∷ printed labels.now b.now ∷ [])).text) }
+    ensures { OnOk result (out.new ≡ out.old ++
+        (spec.call word.now (printed labels.now a.now ∷ printed labels.now b.now ∷ [])).text) }
 {
     put(out, word.as_bytes())?;
     put(out, b"(")?;
@@ -171,7 +177,8 @@ fn put_between(
     a: &Expr,
     b: &Expr,
 ) -> Result<(), Memory>
-    ensures { OnOk result (out.new ≡ out.old ++ spec.infix_text op (printed labels.now a.now) (printed labels.now b.now)) }
+    ensures { OnOk result (out.new ≡ out.old ++ spec.infix_text op (printed labels.now a.now)
+        (printed labels.now b.now)) }
 {
     put_placed(alloc, out, labels, left_place(op), a)?;
     put(out, b" ")?;
@@ -202,7 +209,7 @@ fn level_of(e: &Expr) -> u8
 }
 
 fn level_of_two(op: Op) -> u8
-    ensures { result ≡ spec.level_of op }
+    ensures { result ≡ signs.level_of op }
 {
     match op {
         Op::Or => 1,
@@ -216,7 +223,7 @@ fn level_of_two(op: Op) -> u8
 
 // Operators group to the left, but comparisons do not chain.
 fn left_place(op: Op) -> u8
-    ensures { result ≡ spec.left_place op }
+    ensures { result ≡ signs.left_place op }
 {
     match op {
         Op::Eq | Op::Ne | Op::Lt | Op::Le | Op::Gt | Op::Ge => 5,
@@ -225,13 +232,13 @@ fn left_place(op: Op) -> u8
 }
 
 fn is_call(op: Op) -> bool
-    ensures { result ≡ spec.is_call op }
+    ensures { result ≡ signs.is_call op }
 {
     matches!(op, Op::Min | Op::Max)
 }
 
 fn sign_of(op: Op) -> &'static str
-    ensures { result.now ≡ spec.sign_of op }
+    ensures { result.now ≡ signs.sign_of op }
 {
     match op {
         Op::Or => "or",
@@ -261,7 +268,8 @@ pub fn print_body(
     cells: &[Name],
 ) -> Result<List<u8>, Memory>
     ensures text { IfOk result (λ text. text ≡ spec.task_text sensors.now cells.now task.now) }
-    ensures again { IfOk result (λ text. (source : List ℕ) → IsReadAs sensors.now cells.now source task.now
+    ensures again { IfOk result (λ text. (source : List ℕ)
+        → IsReadAs sensors.now cells.now source task.now
         → ReadsBack sensors.now cells.now (length source) task.now text) }
 {
     let labels = Labels::new(sensors, cells, task.lets.as_slice());
@@ -279,7 +287,8 @@ fn put_lets(
     labels: &Labels,
     rows: &[LetRow],
 ) -> Result<(), Memory>
-    ensures { OnOk result (out.new ≡ out.old ++ flat_map (λ row. spec.let_text labels.now row ++ codes " ") rows.now) }
+    ensures { OnOk result (out.new ≡ out.old ++ flat_map
+        (λ row. spec.let_text labels.now row ++ codes " ") rows.now) }
 {
     for row in rows {
         put_let(alloc, out, labels, row)?;
@@ -295,7 +304,8 @@ fn put_sets(
     labels: &Labels,
     rows: &[SetRow],
 ) -> Result<(), Memory>
-    ensures { OnOk result (out.new ≡ out.old ++ flat_map (λ row. spec.set_text labels.now row ++ codes " ") rows.now) }
+    ensures { OnOk result (out.new ≡ out.old ++ flat_map
+        (λ row. spec.set_text labels.now row ++ codes " ") rows.now) }
 {
     for row in rows {
         put_set(alloc, out, labels, row)?;

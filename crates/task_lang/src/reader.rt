@@ -1,11 +1,13 @@
 //! From tokens to expressions: each level of the grammar by its reader.
 //! This project's own.
 ghost use Rattle.std.specs.Prelude.{◌≡◌, ◌≤◌, [], ◌∷◌, length, MatchOption};
+ghost use Rattle.task_lang.specs.Forms as forms;
 ghost use Rattle.task_lang.specs.Reader as spec;
+ghost use Rattle.task_lang.specs.ReaderParts as parts;
 ghost use Rattle.task_lang.specs.declared.reader.Level.TheVariants as at;
 ghost use Rattle.task_lang.specs.Rules.{IsExpr};
 ghost use Rattle.task_lang.specs.Statements.{scope_of};
-ghost use Rattle.task_lang.specs.Levels.{IsRead, Follows, IsChain, HasPrefix, level_reader, inner_reader, below, operator_at, is_prefix, with_prefix};
+ghost use Rattle.task_lang.specs.inner.Levels.{IsRead, Follows, IsChain, HasPrefix, level_reader, inner_reader, below, operator_at, is_prefix, with_prefix};
 ghost use Rattle.task_lang.specs.Words as words;
 
 use crate::names::Names;
@@ -91,7 +93,8 @@ fn chained<'a>(
     tokens: &'a [Token],
 ) -> Result<(Expr, &'a [Token]), ReadFault>
     requires { IsChain level }
-    ensures { Follows (λ x. (x.0, x.1.now)) result (spec.chained (operator_at level) (level_reader (below level) names.now depth) tokens.now) }
+    ensures { Follows (λ x. (x.0, x.1.now)) result (parts.chained (operator_at level)
+        (level_reader (below level) names.now depth) tokens.now) }
 {
     let (first, rest) = expr_at(alloc, names, operands(level), depth, tokens)?;
     onward(alloc, names, level, depth, first, rest)
@@ -108,7 +111,8 @@ fn onward<'a>(
     tokens: &'a [Token],
 ) -> Result<(Expr, &'a [Token]), ReadFault>
     requires { IsChain level }
-    ensures { Follows (λ x. (x.0, x.1.now)) result (spec.onward (operator_at level) (level_reader (below level) names.now depth) first tokens.now) }
+    ensures { Follows (λ x. (x.0, x.1.now)) result (parts.onward (operator_at level)
+        (level_reader (below level) names.now depth) first tokens.now) }
 {
     let mut left = first;
     let mut rest = tokens;
@@ -133,7 +137,8 @@ fn compared<'a>(
     depth: u8,
     tokens: &'a [Token],
 ) -> Result<(Expr, &'a [Token]), ReadFault>
-    ensures { Follows (λ x. (x.0, x.1.now)) result (spec.compared words.comparison_op (level_reader at.Sum names.now depth) tokens.now) }
+    ensures { Follows (λ x. (x.0, x.1.now)) result
+        (parts.compared words.comparison_op (level_reader at.Sum names.now depth) tokens.now) }
 {
     let (first, rest) = expr_at(alloc, names, Level::Sum, depth, tokens)?;
     let Some((token, behind)) = split_first(rest) else {
@@ -158,7 +163,10 @@ fn prefixed<'a>(
     tokens: &'a [Token],
 ) -> Result<(Expr, &'a [Token]), ReadFault>
     requires { HasPrefix level }
-    ensures { Follows (λ x. (x.0, x.1.now)) result (spec.prefixed (is_prefix level) (with_prefix level) (inner_reader level names.now depth) (level_reader (below level) names.now depth) tokens.now) }
+    ensures { Follows (λ x. (x.0, x.1.now)) result
+        (parts.prefixed (is_prefix level) (with_prefix level)
+        (inner_reader level names.now depth)
+        (level_reader (below level) names.now depth) tokens.now) }
 {
     let Some((token, behind)) = split_first(tokens) else {
         return expr_at(alloc, names, operands(level), depth, tokens);
@@ -181,7 +189,8 @@ fn prim<'a>(
     depth: u8,
     tokens: &'a [Token],
 ) -> Result<(Expr, &'a [Token]), ReadFault>
-    ensures { Follows (λ x. (x.0, x.1.now)) result (spec.prim names.now (inner_reader at.Or names.now depth) tokens.now) }
+    ensures { Follows (λ x. (x.0, x.1.now)) result
+        (spec.prim names.now (inner_reader at.Or names.now depth) tokens.now) }
 {
     let Some((token, behind)) = split_first(tokens) else {
         return Err(ReadFault::At { left: 0 });
@@ -207,7 +216,8 @@ fn inside<'a>(
     depth: u8,
     tokens: &'a [Token],
 ) -> Result<(Expr, &'a [Token]), ReadFault>
-    ensures { Follows (λ x. (x.0, x.1.now)) result (spec.formed form (level_reader at.Or names.now depth) tokens.now) }
+    ensures { Follows (λ x. (x.0, x.1.now)) result
+        (spec.formed form (level_reader at.Or names.now depth) tokens.now) }
 {
     match form {
         Form::Brackets => {
@@ -248,7 +258,8 @@ fn pair<'a>(
     depth: u8,
     tokens: &'a [Token],
 ) -> Result<(Boxed<Expr>, Boxed<Expr>, &'a [Token]), ReadFault>
-    ensures { Follows (λ x. (x.0 ∷ x.1 ∷ [], x.2.now)) result (spec.sequence (level_reader at.Or names.now depth) words.two_arguments tokens.now) }
+    ensures { Follows (λ x. (x.0 ∷ x.1 ∷ [], x.2.now)) result
+        (parts.sequence (level_reader at.Or names.now depth) forms.two_arguments tokens.now) }
 {
     let rest = past(Mark::Open, tokens)?;
     let (a, rest) = expr_at(alloc, names, Level::Or, depth, rest)?;
@@ -267,7 +278,8 @@ fn triple<'a>(
     depth: u8,
     tokens: &'a [Token],
 ) -> Result<(Boxed<Expr>, Boxed<Expr>, Boxed<Expr>, &'a [Token]), ReadFault>
-    ensures { Follows (λ x. (x.0 ∷ x.1 ∷ x.2 ∷ [], x.3.now)) result (spec.sequence (level_reader at.Or names.now depth) words.three_arguments tokens.now) }
+    ensures { Follows (λ x. (x.0 ∷ x.1 ∷ x.2 ∷ [], x.3.now)) result
+        (parts.sequence (level_reader at.Or names.now depth) forms.three_arguments tokens.now) }
 {
     let rest = past(Mark::Open, tokens)?;
     let (a, rest) = expr_at(alloc, names, Level::Or, depth, rest)?;
@@ -283,7 +295,7 @@ fn triple<'a>(
 }
 
 pub fn past(mark: Mark, tokens: &[Token]) -> Result<&[Token], ReadFault>
-    ensures { Follows (λ x. x.now) result (spec.past mark tokens.now) }
+    ensures { Follows (λ x. x.now) result (parts.past mark tokens.now) }
 {
     let Some((token, behind)) = split_first(tokens) else {
         return Err(ReadFault::At { left: 0 });
@@ -385,7 +397,7 @@ fn leaf_of(names: &Names, token: &Token) -> Option<Expr>
 }
 
 fn form_of(token: &Token) -> Option<Form>
-    ensures { result ≡ words.form_of token.now }
+    ensures { result ≡ forms.form_of_token token.now }
 {
     match token {
         Token::Open => Some(Form::Brackets),
@@ -414,7 +426,8 @@ pub fn expr_of(
 }
 
 fn whole_expr(alloc: Global, names: &Names, depth: u8, tokens: &[Token]) -> Result<Expr, ReadFault>
-    ensures { Follows (λ tree. tree) result (spec.whole (level_reader at.Or names.now depth) tokens.now) }
+    ensures { Follows (λ tree. tree) result
+        (spec.whole (level_reader at.Or names.now depth) tokens.now) }
 {
     let (tree, rest) = expr_at(alloc, names, Level::Or, depth, tokens)?;
     if rest.is_empty() {

@@ -2,7 +2,7 @@
 //! This project's own.
 ghost use Rattle.std.specs.Prelude.{◌≡◌, ◌+◌, ◌∷◌, length, is_some, IfOk, MatchOption, Some};
 ghost use Rattle.task_lang.specs.NameFaults as spec;
-ghost use Rattle.task_lang.specs.NameFaults.{name_fault};
+ghost use Rattle.task_lang.specs.NameFaults.{first_wrong_name};
 
 use crate::names::position_of;
 use crate::reader::split_first;
@@ -65,7 +65,11 @@ impl<'a> Scan<'a> {
 
     // Goes past a token, or tells what is wrong with its name.
     fn step(&mut self, token: &Token, behind: &[Token]) -> Result<Option<NameFault>, Memory>
-        ensures { IfOk result (λ found. MatchOption found (spec.first_fault self.old (token.now ∷ behind.now) ≡ spec.first_fault self.new behind.now) (λ fault. spec.first_fault self.old (token.now ∷ behind.now) ≡ Some (fault, length behind.now + 1))) }
+        ensures { IfOk result (λ found. MatchOption found
+            (spec.wrong_name_from self.old (token.now ∷ behind.now)
+            ≡ spec.wrong_name_from self.new behind.now)
+            (λ fault. spec.wrong_name_from self.old (token.now ∷ behind.now)
+            ≡ Some (fault, length behind.now + 1))) }
     {
         let Some(name) = word_of(token) else {
             self.pass(token)?;
@@ -159,14 +163,14 @@ impl<'a> Scan<'a> {
 }
 
 /// The first wrong name of an expression or a body, and how many tokens are left there.
-#[tactic(auto, unfolding(crate::specs::NameFaults::name_fault))]
-pub fn name_fault(
+#[tactic(auto, unfolding(crate::specs::NameFaults::first_wrong_name))]
+pub fn first_wrong_name(
     alloc: Global,
     sensors: &[Name],
     cells: &[Name],
     tokens: &[Token],
 ) -> Result<Option<(NameFault, usize)>, Memory>
-    ensures { IfOk result (λ found. found ≡ name_fault sensors.now cells.now tokens.now) }
+    ensures { IfOk result (λ found. found ≡ first_wrong_name sensors.now cells.now tokens.now) }
 {
     let mut scan = Scan::new(alloc, sensors, cells);
     let mut rest = tokens;
@@ -180,7 +184,7 @@ pub fn name_fault(
 }
 
 fn is_among(names: &[Name], name: &Name) -> bool
-    ensures { result ≡ spec.is_among names.now name.now }
+    ensures { result ≡ spec.has_name names.now name.now }
 {
     position_of(name, names).is_some()
 }

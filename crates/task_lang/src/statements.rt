@@ -1,10 +1,12 @@
 //! From tokens to the statements of a body.
 //! This project's own.
 ghost use Rattle.std.specs.Prelude.{◌≡◌, ◌≤◌, [], length, unwrap_or, IfOk};
+ghost use Rattle.rcp_base.specs.Answers.{place_in};
 ghost use Rattle.task_lang.specs.declared.reader.Level.TheVariants as at;
-ghost use Rattle.task_lang.specs.Levels.{Follows, IsRead, level_reader};
-ghost use Rattle.task_lang.specs.Rows.{IsAdded};
+ghost use Rattle.task_lang.specs.inner.Levels.{Follows, IsRead, level_reader};
+ghost use Rattle.task_lang.specs.inner.Rows.{IsAdded};
 ghost use Rattle.task_lang.specs.Statements as spec;
+ghost use Rattle.task_lang.specs.StatementReaders as readers;
 ghost use Rattle.task_lang.specs.Words as words;
 
 use crate::names::{Names, place_in};
@@ -88,7 +90,8 @@ fn task_at(
     requires tokens { length tokens.now ≤ 65536 }
     requires sensors { length sensors.now ≤ 65536 }
     requires cells { length cells.now ≤ 65536 }
-    ensures { Follows (λ task. task) result (spec.read_task depth sensors.now cells.now name tokens.now) }
+    ensures { Follows (λ task. task) result
+        (readers.read_task depth sensors.now cells.now name tokens.now) }
 {
     let mut rows = Rows::new(alloc);
     let mut rest = tokens;
@@ -114,7 +117,8 @@ fn statement_at<'a>(
     depth: u8,
     tokens: &'a [Token],
 ) -> Result<(Statement, &'a [Token]), ReadFault>
-    ensures { Follows (λ x. (x.0, x.1.now)) result (spec.statement_reader (level_reader at.Or names.now depth) tokens.now) }
+    ensures { Follows (λ x. (x.0, x.1.now)) result
+        (readers.statement_reader (level_reader at.Or names.now depth) tokens.now) }
 {
     let Some((token, behind)) = split_first(tokens) else {
         return Err(ReadFault::At { left: 0 });
@@ -133,7 +137,9 @@ fn named<'a>(
     depth: u8,
     tokens: &'a [Token],
 ) -> Result<(Statement, &'a [Token]), ReadFault>
-    ensures { Follows (λ x. (x.0, x.1.now)) result (spec.named_reader mark (spec.statement_of mark) (level_reader at.Or names.now depth) tokens.now) }
+    ensures { Follows (λ x. (x.0, x.1.now)) result
+        (readers.named_reader mark (readers.statement_of mark)
+        (level_reader at.Or names.now depth) tokens.now) }
 {
     let Some((token, behind)) = split_first(tokens) else {
         return Err(ReadFault::At { left: 0 });
@@ -165,7 +171,7 @@ pub fn word_of(token: &Token) -> Option<Name>
 
 // The statement that has this mark behind its name.
 fn statement_of(mark: Mark, name: Name, value: Expr) -> Statement
-    ensures { result ≡ spec.statement_of mark name value }
+    ensures { result ≡ readers.statement_of mark name value }
 {
     match mark {
         Mark::Equal => Statement::Let(name, value),
@@ -176,7 +182,7 @@ fn statement_of(mark: Mark, name: Name, value: Expr) -> Statement
 // The number of a cell, or the first cell's as a stand-in where it is none.
 fn cell_of(name: &Name, cells: &[Name]) -> u16
     requires { length cells.now ≤ 65536 }
-    ensures { result ≡ unwrap_or (words.place_in cells.now name.now) 0 }
+    ensures { result ≡ unwrap_or (place_in cells.now name.now) 0 }
 {
     match place_in(name, cells) {
         Some(cell) => cell,

@@ -417,7 +417,7 @@ fn faults_have_messages(rt: HostRuntime) -> Result<(), Fail> {
             LangFault::BadTarget { byte: 70000 },
             "a name that may not be given a value at byte 70000",
         ),
-        (LangFault::Memory, "memory was wanting"),
+        (LangFault::Memory, "memory ran out"),
     ] {
         assert_eq!(rt; format!(in alloc; "{fault}")?.as_str(), due);
     }

@@ -1,6 +1,6 @@
 use Rattle.std.proofs.Common.{◌≡◌, ◌+◌, ◌*◌, ◌-◌, length}
-use Rattle.task_lang.specs.Reader.{onward}
-use Rattle.task_lang.specs.Levels.{level_reader, operator_at, below}
+use Rattle.task_lang.specs.ReaderParts.{onward}
+use Rattle.task_lang.specs.inner.Levels.{level_reader, operator_at, below}
 use Rattle.task_lang.proofs.ReaderSteps.{rank}
 use Rattle.task_lang.proofs.reader.+reader.Given as goal
 

@@ -1,6 +1,6 @@
 use Rattle.std.proofs.Common.{rules, sym, subst, ◌∙◌}
 use Rattle.std.proofs.lemmas.Result.{err_from_is_err_and}
-use Rattle.task_lang.specs.Levels.{Fails}
+use Rattle.task_lang.specs.inner.Levels.{Fails}
 use Rattle.task_lang.proofs.RowSteps.{task_begins, next_shorter, still_few, one_more, the_last, the_fault}
 use Rattle.task_lang.proofs.statements.task_at.Goals as goal
 

@@ -1,5 +1,5 @@
 use Rattle.std.proofs.Common.{◌≡◌, ◌≤◌, ◌+◌, length}
-use Rattle.task_lang.specs.Statements.{read_task}
+use Rattle.task_lang.specs.StatementReaders.{read_task}
 use Rattle.task_lang.proofs.RowSteps.{task_behind}
 use Rattle.task_lang.proofs.statements.task_at.Given as goal
 

@@ -10,7 +10,8 @@ use Rattle.task_lang.specs.declared.reader.Level.TheVariants as level
 use Rattle.task_lang.specs.declared.reader.ReadFault.{ReadFault}
 use Rattle.task_lang.specs.declared.reader.ReadFault.TheVariants as fault
 use Rattle.task_lang.specs.Words.{Scope, or_op, and_op, comparison_op, sum_op, product_op, is_not, is_minus}
-use Rattle.task_lang.specs.Reader.{Reader, readers, prim_reader, unary_reader, product_reader, sum_reader, comparison_reader, inv_reader, conj_reader, expr_reader}
+use Rattle.task_lang.specs.ReaderParts.{Reader}
+use Rattle.task_lang.specs.Reader.{readers, prim_reader, unary_reader, product_reader, sum_reader, comparison_reader, inv_reader, conj_reader, expr_reader}
 use Rattle.task_lang.specs.Faults.{Answers}
 
 -- the reader of a level where at most n brackets and prefixes may yet enclose a token
@@ -72,7 +73,7 @@ abbrev pub with_prefix : Level → Expr → Expr
 with_prefix level.Inv a = expr.Not a
 with_prefix _ a = expr.Neg a
 
--- what the code answers, by a view of it: a fault is where the reader has it, unless memory was wanting
+-- what the code answers, by a view of it: a fault is where the reader has it, unless memory ran out
 abbrev pub Fails : {Y : Type 0} → ReadFault → Result Y ℕ → Type 0
 Fails fault.Memory read = ⊤
 Fails (fault.At left) read = read ≡ Err left
