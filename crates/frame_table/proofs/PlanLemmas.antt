@@ -1,18 +1,20 @@
 -- A table of a plan does what the plan says.
-use Rattle.std.proofs.Common.{◌≡◌, ℕ, zero, suc, ◌<◌, ℤ, pos, List, [], ◌∷◌, map, length, get_or, refl, ap, sym, ◌∙◌, arith}
+use Rattle.std.proofs.Common.{◌≡◌, ℕ, zero, suc, ◌<◌, ℤ, pos, List, [], ◌∷◌, map, length, get_or, refl, ap, sym, ◌∙◌, rules}
 use Rattle.std.proofs.lemmas.List.{get_or-map, length-map}
+use Rattle.rcp_model.specs.declared.expr.Expr.{the_lemmas}
 use Rattle.rcp_model.specs.declared.task.Task.{Task}
 use Rattle.rcp_model.specs.declared.plan.SlotRow.{SlotRow}
 use Rattle.rcp_model.specs.declared.plan.ActuatorRow.{ActuatorRow}
 use Rattle.rcp_model.specs.declared.plan.PlanParts.{PlanParts}
-use Rattle.rcp_model.specs.Slot.{no_task, no_slot, numbered, cells_after_tasks, cells_after_slot, actuator_value}
+use Rattle.rcp_model.specs.Slot.{no_task, no_slot, no_actuator, actuator_at, numbered, cells_after_tasks, cells_after_slot, actuator_value}
 use Rattle.rcp_model.specs.Task.{cells_after_task}
 use Rattle.task_code.specs.Machine.{results}
 use Rattle.task_code.specs.Compiler.{task_code, expr_code}
 use Rattle.task_code.proofs.SizeLaws.{expr_code_computes}
 use Rattle.frame_table.specs.declared.table.Table.{Table}
 use Rattle.frame_table.specs.Tasks.{cells_after_number, cells_after_numbers}
-use Rattle.frame_table.specs.Plan.{IsOf, targets_of, programs_of, slots_of}
+use Rattle.frame_table.specs.Plan.{IsOf, targets_of, programs_of, slots_of, commands_of}
+use Rattle.frame_table.specs.Values.{value_in}
 use Rattle.frame_table.proofs.TaskLemmas.{code_leaves}
 
 -- what a function makes of an item, or of what stands where there is none
@@ -50,21 +52,19 @@ slot_is plan table slot numbers sensors cells after is_of numbers_are ran =
     ∙ ap (λ programs. cells_after_numbers programs (get_or (slots_of plan.slots) slot []) sensors cells) is_of.programs
     ∙ slot_leaves plan slot sensors cells
 
+-- the code of an actuator gives its value, and where there is none, 0
+values_of : (actuators : List ActuatorRow) (actuator : ℕ) (sensors cells : List ℤ)
+    → value_in (commands_of actuators) actuator sensors cells ≡ actuator_value (get_or actuators actuator no_actuator) sensors cells
+values_of [] actuator sensors cells = search (rules, the_lemmas)
+values_of (row ∷ rows) zero sensors cells = ap (λ values. get_or values 0 (pos 0)) ((expr_code_computes row.value).values sensors cells)
+values_of (row ∷ rows) (suc actuator) sensors cells = values_of rows actuator sensors cells
+
 -- an actuator of a table of the plan
 pub value_is :
-    (plan : PlanParts) (table : Table) (actuator : ℕ) (d : ActuatorRow) (sensors cells : List ℤ) (value : ℤ) → IsOf plan table →
-    actuator < length table.commands →
-    results (get_or table.commands actuator []) sensors cells ≡ value ∷ [] →
-    value ≡ actuator_value (get_or plan.actuators actuator d) sensors cells
-value_is plan table actuator d sensors cells value is_of below gave =
-    let within : actuator < length plan.actuators = omega (arith, ap length is_of.commands, length-map plan.actuators (λ (a : ActuatorRow). expr_code a.value)) in
-    let code : get_or table.commands actuator [] ≡ expr_code (get_or plan.actuators actuator d).value =
-    ap (λ codes. get_or codes actuator []) is_of.commands ∙ get_or-map (λ (a : ActuatorRow). expr_code a.value) plan.actuators actuator d [] within in
-    let both : value ∷ [] ≡ actuator_value (get_or plan.actuators actuator d) sensors cells ∷ [] =
-    sym gave ∙ ap (λ c. results c sensors cells) code ∙ (expr_code_computes (get_or plan.actuators actuator d).value).values sensors cells in
-    ap (λ values. get_or values 0 (pos 0)) both
-
--- a table of a plan has a command for each of its actuators
-pub as_many_commands : (plan : PlanParts) (table : Table) → IsOf plan table → length table.commands ≡ length plan.actuators
-as_many_commands plan table is_of =
-    ap length is_of.commands ∙ length-map plan.actuators (λ (actuator : ActuatorRow). expr_code actuator.value)
+    (plan : PlanParts) (table : Table) (actuator : ℕ) (sensors cells : List ℤ) (value : ℤ) → IsOf plan table
+    → value ≡ value_in table.commands actuator sensors cells
+    → value ≡ actuator_value (actuator_at plan actuator) sensors cells
+value_is plan table actuator sensors cells value is_of gave =
+    gave
+    ∙ ap (λ codes. value_in codes actuator sensors cells) is_of.commands
+    ∙ values_of plan.actuators actuator sensors cells

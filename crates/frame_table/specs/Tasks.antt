@@ -14,16 +14,16 @@ written_back [] values cells = cells
 written_back (target ∷ targets) [] cells = cells
 written_back (target ∷ targets) (value ∷ values) cells = slice_set (written_back targets values cells) target value
 
--- the cells behind a code whose results go to these
+-- the cells after a code whose results go to these
 abbrev pub cells_after_code : List Instruction → List ℕ → List ℤ → List ℤ → List ℤ
 cells_after_code code targets sensors cells = written_back targets (results code sensors cells) cells
 
--- the cells behind the task with this number; one that isn't there changes nothing
+-- the cells after the task with this number; one that isn't there changes nothing
 abbrev pub cells_after_number : Programs → ℕ → List ℤ → List ℤ → List ℤ
 cells_after_number programs number sensors cells =
     cells_after_code (slice_index_or programs.codes number []) (slice_index_or programs.targets number []) sensors cells
 
--- the cells behind tasks with these numbers that run one after the other
+-- the cells after tasks with these numbers that run one after the other
 abbrev pub cells_after_numbers : Programs → List ℕ → List ℤ → List ℤ → List ℤ
 cells_after_numbers programs [] sensors cells = cells
 cells_after_numbers programs (number ∷ numbers) sensors cells =

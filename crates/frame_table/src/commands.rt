@@ -1,8 +1,8 @@
 //! The compiled actuators of a plan.
 //! This project's own.
-ghost use Rattle.std.specs.Prelude.{◌≡◌, ◌<◌, ◌∷◌, [], IfOk, length, slice_index_or};
+ghost use Rattle.std.specs.Prelude.{◌≡◌, IfOk};
 ghost use Rattle.frame_table.specs.Plan.{commands_of};
-ghost use Rattle.task_code.specs.Machine.{results};
+ghost use Rattle.frame_table.specs.Values.{value_in};
 
 use crate::build::command_codes;
 use rcp_base::Memory;
@@ -42,15 +42,16 @@ impl Commands {
         Ok(Commands { codes, runner })
     }
 
-    /// The value of the actuator with this number.
+    /// The value of the actuator with this number, and 0 where there is none.
     pub fn value(&mut self, actuator: usize, sensors: &[i64], cells: &[i64]) -> i64
-        requires { actuator < length self.old }
-        ensures value { results (slice_index_or self.old actuator []) sensors.now cells.now ≡ result ∷ [] }
+        ensures value { result ≡ value_in self.old actuator sensors.now cells.now }
         ensures commands { self.new ≡ self.old }
     {
         let mut out = [0];
-        self.runner
-            .eval(&self.codes[actuator], sensors, cells, &mut out);
+        if actuator < self.codes.len() {
+            self.runner
+                .eval(&self.codes[actuator], sensors, cells, &mut out);
+        }
         out[0]
     }
 }

@@ -8,7 +8,4 @@ mod programs;
 mod table;
 mod write_back;
 
-pub use table::{Table, table_of};
-
-#[cfg(test)]
-mod tests;
+pub use table::Table;

@@ -1,9 +1,8 @@
 //! The frame table.
 //! After NASA TM-102716.
-ghost use Rattle.std.specs.Prelude.{◌≡◌, ◌<◌, [], IfOk, length, slice_index_or};
-ghost use Rattle.rcp_model.specs.declared.plan.ActuatorRow.{ActuatorRow};
+ghost use Rattle.std.specs.Prelude.{◌≡◌, [], IfOk, slice_index_or};
 ghost use Rattle.rcp_model.specs.declared.plan.PlanParts.{PlanParts};
-ghost use Rattle.rcp_model.specs.Slot.{cells_after_slot, actuator_value};
+ghost use Rattle.rcp_model.specs.Slot.{actuator_at, cells_after_slot, actuator_value};
 ghost use Rattle.frame_table.specs.Plan.{IsOf};
 
 use crate::build::slots_of;
@@ -31,26 +30,27 @@ impl Table {
 
     /// Runs the tasks of a slot. A slot that isn't there changes nothing.
     pub fn run_slot(&mut self, slot: u32, sensors: &[i64], cells: &mut [i64])
-        ensures cells { (plan : PlanParts) → IsOf plan self.old → cells.new ≡ cells_after_slot plan slot sensors.now cells.old }
+        ensures cells { (plan : PlanParts) → IsOf plan self.old
+            → cells.new ≡ cells_after_slot plan slot sensors.now cells.old }
         ensures table { self.new ≡ self.old }
     {
         let numbers = numbers_of(self.slots.as_slice(), slot as usize);
         self.programs.run(numbers, sensors, cells);
     }
 
-    /// The value that an actuator is commanded.
+    /// The value that an actuator is commanded. That of an actuator that isn't there is 0.
     #[tactic(auto, using(crate::proofs::PlanLemmas::value_is))]
     pub fn command(&mut self, actuator: u32, sensors: &[i64], cells: &[i64]) -> i64
-        requires { actuator < length self.old.commands }
-        ensures value { (plan : PlanParts) (d : ActuatorRow) → IsOf plan self.old → result ≡ actuator_value (slice_index_or plan.actuators actuator d) sensors.now cells.now }
+        ensures value { (plan : PlanParts) → IsOf plan self.old
+            → result ≡ actuator_value (actuator_at plan actuator) sensors.now cells.now }
         ensures table { self.new ≡ self.old }
     {
         self.commands.value(actuator as usize, sensors, cells)
     }
 }
 
-/// The table of parts, whether or not they keep the rules of a plan.
-pub fn table_of(alloc: Global, parts: &PlanParts) -> Result<Table, Memory>
+// The table of a plan's parts.
+fn table_of(alloc: Global, parts: &PlanParts) -> Result<Table, Memory>
     ensures { IfOk result (IsOf parts.now) }
 {
     Ok(Table {

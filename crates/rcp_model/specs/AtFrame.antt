@@ -7,7 +7,7 @@ use Rattle.rcp_model.specs.declared.plan.PlanParts.{PlanParts}
 use Rattle.rcp_model.specs.FrameRows.{FrameRows, quiet_rows}
 use Rattle.rcp_model.specs.Health.{is_healthy}
 use Rattle.rcp_model.specs.History.{History, past_of, sensors_of}
-use Rattle.rcp_model.specs.Slot.{actuator_value, no_actuator}
+use Rattle.rcp_model.specs.Slot.{actuator_at, actuator_value}
 use Rattle.rcp_model.specs.System.{actuator_vote, SystemState, state_after}
 use Rattle.rcp_model.specs.Uniprocessor.{ProcessorState, ideal_state}
 
@@ -26,7 +26,7 @@ system_after plan history frames = state_after plan (past_of history frames)
 -- what the single processor commands an actuator in a frame
 abbrev pub ideal_command_at : PlanParts → History → ℕ → ℕ → ℤ
 ideal_command_at plan history frame actuator =
-    actuator_value (slice_index_or plan.actuators actuator no_actuator)
+    actuator_value (actuator_at plan actuator)
     (rows_at history frame).sensors (ideal_after plan history (suc frame)).cells
 
 -- what the replicas vote for an actuator in a frame

@@ -1,11 +1,11 @@
 -- The words in which a reader counts frames, and the lists with the newest frame first, say the same.
 -- This project's own.
-use Rattle.std.specs.Prelude.{◌≡◌, ◌<◌, ◌↔◌, ℕ, suc, ◌%◌, length, slice_index_or}
+use Rattle.std.specs.Prelude.{◌≡◌, ◌<◌, ◌↔◌, ℕ, suc, ◌%◌, length}
 use Rattle.rcp_model.specs.declared.plan.PlanParts.{PlanParts}
 use Rattle.rcp_model.specs.AtFrame.{rows_at, ideal_after, system_after, ideal_command_at, is_working_at, MeetsGuardAt}
 use Rattle.rcp_model.specs.Health.{is_working, MeetsGuard}
 use Rattle.rcp_model.specs.History.{History, past_of, sensors_of}
-use Rattle.rcp_model.specs.Slot.{slot_count, cells_after_slot, no_actuator}
+use Rattle.rcp_model.specs.Slot.{slot_count, actuator_at, cells_after_slot}
 use Rattle.rcp_model.specs.System.{initial_state, next_state}
 use Rattle.rcp_model.specs.Uniprocessor.{initial_values, ideal_command}
 
@@ -22,7 +22,7 @@ pub record StepsByFrames (plan : PlanParts) (history : History) : Type 0 where
       (t : ℕ) → t < length history → system_after plan history (suc t) ≡ next_state plan (system_after plan history t) (rows_at history t)
   pub command :
       (t actuator : ℕ) → t < length history
-      → ideal_command plan (slice_index_or plan.actuators actuator no_actuator) (rows_at history t).sensors (sensors_of (past_of history t))
+      → ideal_command plan (actuator_at plan actuator) (rows_at history t).sensors (sensors_of (past_of history t))
       ≡ ideal_command_at plan history t actuator
 
 -- who is working at a frame of a history, and whether the guard holds there

@@ -29,14 +29,18 @@ numbered tasks numbers = map (λ number. slice_index_or tasks number no_task) nu
 abbrev pub tasks_of : PlanParts → ℕ → List Task
 tasks_of plan slot = numbered plan.tasks (slice_index_or plan.slots slot no_slot).tasks
 
--- the cells behind tasks that run one after the other
+-- the cells after tasks that run one after the other
 abbrev pub cells_after_tasks : List Task → List ℤ → List ℤ → List ℤ
 cells_after_tasks [] sensors cells = cells
 cells_after_tasks (task ∷ tasks) sensors cells = cells_after_tasks tasks sensors (cells_after_task task sensors cells)
 
--- the cells behind a slot
+-- the cells after a slot
 unfoldable pub cells_after_slot : PlanParts → ℕ → List ℤ → List ℤ → List ℤ
 cells_after_slot plan slot sensors cells = cells_after_tasks (tasks_of plan slot) sensors cells
+
+-- the actuator with a number
+abbrev pub actuator_at : PlanParts → ℕ → ActuatorRow
+actuator_at plan actuator = slice_index_or plan.actuators actuator no_actuator
 
 -- the value of an actuator's expression
 abbrev pub actuator_value : ActuatorRow → List ℤ → List ℤ → ℤ

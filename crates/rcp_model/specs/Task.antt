@@ -26,11 +26,11 @@ expression_for (row ∷ rows) c = if row.cell == c then Some row.value else expr
 abbrev pub written : Task → ℕ → Option Expr
 written task c = expression_for task.sets c
 
--- a cell behind a task that gives it this expression, or none
+-- a cell after a task that gives it this expression, or none
 abbrev pub cell_after : Task → List ℤ → List ℤ → ℕ → Option Expr → ℤ
 cell_after task sensors cells c None = slice_index_or cells c (pos 0)
 cell_after task sensors cells c (Some e) = value_of e (let_values task sensors cells) sensors cells
 
--- the cells behind a task: all sets read the cells as the task found them
+-- the cells after a task: all sets read the cells as the task found them
 unfoldable pub cells_after_task : Task → List ℤ → List ℤ → List ℤ
 cells_after_task task sensors cells = table (length cells) (λ c. cell_after task sensors cells c (written task c))

@@ -15,19 +15,19 @@ pub record ProcessorState : Type 0 where
   pub slot : ℕ
   pub cells : List ℤ
 
--- the slot behind these frames: one further with each, round the frame table
+-- the slot after these frames: one further with each, round the frame table
 abbrev pub ideal_slot : PlanParts → List (List ℤ) → ℕ
 ideal_slot plan past = length past % slot_count plan
 
--- the cells behind these frames, each of which ran its slot over the cells before it
+-- the cells after these frames, each of which ran its slot over the cells before it
 abbrev pub ideal_cells : PlanParts → List (List ℤ) → List ℤ
 ideal_cells plan [] = initial_values plan.cells
 ideal_cells plan (sensors ∷ past) = cells_after_slot plan (ideal_slot plan past) sensors (ideal_cells plan past)
 
--- the state behind these frames
+-- the state after these frames
 abbrev pub ideal_state : PlanParts → List (List ℤ) → ProcessorState
 ideal_state plan past = record { slot = ideal_slot plan past; cells = ideal_cells plan past }
 
--- the command of the frame with these sensors, which follows these frames: over the cells behind it
+-- the command of the frame with these sensors, which follows these frames: over the cells after it
 abbrev pub ideal_command : PlanParts → ActuatorRow → List ℤ → List (List ℤ) → ℤ
 ideal_command plan actuator sensors past = actuator_value actuator sensors (ideal_cells plan (sensors ∷ past))

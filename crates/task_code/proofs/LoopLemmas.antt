@@ -1,4 +1,4 @@
--- What is left of a run behind its next instruction.
+-- What is left of a run after its next instruction.
 use Rattle.std.proofs.Common.{◌≡◌, ℕ, ◌+◌, ◌≤◌, ◌<◌, max, ℤ, List, [], ◌∷◌, length, get_or, drop, ap, sym, ◌∙◌, add-one, drop-cons, arith}
 use Rattle.task_code.specs.declared.instruction.Instruction.{Instruction}
 use Rattle.task_code.specs.Machine.{State, step, run, height_after, lets_after, room_from, result_count, gives}

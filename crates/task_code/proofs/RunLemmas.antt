@@ -94,7 +94,7 @@ pushes_rolled y =
 pub pushes : (e : Expr) → PushesValue e
 pushes = ind-Expr PushesValue (λ x y is. subst (λ z. PushesValue (roll-Expr z)) is (pushes_rolled y))
 
--- the code of let rows leaves their values behind the lets before them
+-- the code of let rows leaves their values after the lets before them
 pub runs_lets :
     (sensors cells : List ℤ) (rows : List LetRow) (rest : List Instruction) (s : State) →
     run sensors cells (lets_code rows ++ rest) s ≡ run sensors cells rest (record s { lets = let_values_after s.lets rows sensors cells })
@@ -104,7 +104,7 @@ runs_lets sensors cells (row ∷ rows) rest s =
     ∙ pushes row.value sensors cells (Keep ∷ (lets_code rows ++ rest)) s
     ∙ runs_lets sensors cells rows rest (record s { lets = s.lets ++ value_of row.value s.lets sensors cells ∷ [] })
 
--- the code of set rows leaves their values behind the results before them
+-- the code of set rows leaves their values after the results before them
 pub runs_sets :
     (sensors cells : List ℤ) (rows : List SetRow) (rest : List Instruction) (s : State) →
     run sensors cells (sets_code rows ++ rest) s

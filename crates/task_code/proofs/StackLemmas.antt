@@ -8,7 +8,7 @@ pub length_rest : (numbers : List ℤ) → length (rest_of numbers) ≡ length n
 length_rest [] = refl
 length_rest (x ∷ xs) = omega arith
 
--- the height behind an instruction
+-- the height after an instruction
 pub height_step : (sensors cells : List ℤ) (i : Instruction) (s : State) → length (step sensors cells i s).stack ≡ height_after i (length s.stack)
 height_step sensors cells (Number n) s = omega arith
 height_step sensors cells (Sensor n) s = omega arith
@@ -23,7 +23,7 @@ height_step sensors cells If s = omega (arith, length_rest s.stack, length_rest 
 height_step sensors cells Keep s = omega (arith, length_rest s.stack)
 height_step sensors cells Give s = omega (arith, length_rest s.stack)
 
--- the lets behind an instruction
+-- the lets after an instruction
 pub lets_step : (sensors cells : List ℤ) (i : Instruction) (s : State) → length (step sensors cells i s).lets ≡ lets_after i (length s.lets)
 lets_step sensors cells (Number n) s = refl
 lets_step sensors cells (Sensor n) s = refl

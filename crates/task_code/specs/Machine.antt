@@ -71,7 +71,7 @@ run sensors cells (instruction ∷ code) s = run sensors cells code (step sensor
 abbrev pub results : List Instruction → List ℤ → List ℤ → List ℤ
 results code sensors cells = (run sensors cells code start).results
 
--- how many numbers stand on the stack behind an instruction, where so many stood before
+-- how many numbers stand on the stack after an instruction, where so many stood before
 abbrev pub height_after : Instruction → ℕ → ℕ
 height_after (Number n) height = height + 1
 height_after (Sensor i) height = height + 1
@@ -86,7 +86,7 @@ height_after If height = height - 1 - 1 - 1 + 1
 height_after Keep height = height - 1
 height_after Give height = height - 1
 
--- how many lets have a value behind an instruction
+-- how many lets have a value after an instruction
 abbrev pub lets_after : Instruction → ℕ → ℕ
 lets_after Keep lets = lets + 1
 lets_after _ lets = lets

@@ -80,7 +80,7 @@ fn room_of(code: &[Instruction]) -> u32
     room.max(height.max(lets))
 }
 
-// How many numbers stand on the stack behind an instruction, where so many stood before.
+// How many numbers stand on the stack after an instruction, where so many stood before.
 fn height_after(instruction: Instruction, height: u32) -> u32
     requires { height + 1 < 2 ^ 32 }
     ensures height { result ≡ machine.height_after instruction height }
@@ -98,7 +98,7 @@ fn height_after(instruction: Instruction, height: u32) -> u32
     }
 }
 
-// How many lets have a value behind an instruction.
+// How many lets have a value after an instruction.
 fn lets_after(instruction: Instruction, lets: u32) -> u32
     requires { lets + 1 < 2 ^ 32 }
     ensures lets { result ≡ machine.lets_after instruction lets }

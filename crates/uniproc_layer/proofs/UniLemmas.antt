@@ -5,25 +5,30 @@ use native.Mathlib.Nat.{suc-mod}
 use Rattle.rcp_model.specs.declared.plan.ActuatorRow.{ActuatorRow}
 use Rattle.rcp_model.specs.declared.plan.SlotRow.{SlotRow}
 use Rattle.rcp_model.specs.declared.plan.PlanParts.{PlanParts}
-use Rattle.rcp_model.specs.Slot.{slot_count, cells_after_slot, actuator_value}
+use Rattle.rcp_model.specs.Slot.{slot_count, cells_after_slot, actuator_value, no_actuator}
+use Rattle.task_code.specs.Compiler.{expr_code}
 use Rattle.rcp_model.specs.Uniprocessor.{ProcessorState, ideal_slot, ideal_cells}
 use Rattle.frame_table.specs.declared.table.Table.{Table}
 use Rattle.frame_table.specs.Plan.{IsOf}
 use Rattle.uniproc_layer.specs.Uni.{Processor, StandsAfter}
 
--- the slot behind one frame more
+-- the slot after one frame more
 pub next_slot : (a n : ℕ) → (a % n + 1) % n ≡ suc a % n
 next_slot a n = ap (λ k. k % n) (add-one (a % n)) ∙ sym (suc-mod a n)
 
 -- values in as many places are those of a list, where each is
 pub values_are : (f : ActuatorRow → ℤ) (actuators : List ActuatorRow) (values : List ℤ) → length values ≡ length actuators
-    → ((d : ActuatorRow) (k : ℕ) → k < length values → get_or values k (pos 0) ≡ f (get_or actuators k d)) → values ≡ map f actuators
-values_are f [] values same each = ext_get_or (pos 0) values [] same (λ k below. absurd (omega (arith, same, below)))
-values_are f (actuator ∷ actuators) values same each =
-    ext_get_or (pos 0) values (map f (actuator ∷ actuators)) (same ∙ sym (length-map (actuator ∷ actuators) f))
-    (λ k below. each actuator k below ∙ sym (get_or-map f (actuator ∷ actuators) k actuator (pos 0) (omega (arith, same, below))))
+    → ((k : ℕ) → k < length values → get_or values k (pos 0) ≡ f (get_or actuators k no_actuator)) → values ≡ map f actuators
+values_are f actuators values same each =
+    ext_get_or (pos 0) values (map f actuators) (same ∙ sym (length-map actuators f))
+    (λ k below. each k below ∙ sym (get_or-map f actuators k no_actuator (pos 0) (omega (arith, same, below))))
 
--- a processor that has run the slot at hand over the cells, has gone on by one slot and has the commands over the cells behind it
+-- a table of a plan has a command for each of its actuators
+pub as_many_commands : (plan : PlanParts) (table : Table) (commands : ℕ) → IsOf plan table → commands ≡ length table.commands → commands ≡ length plan.actuators
+as_many_commands plan table commands is_of are =
+    are ∙ ap length is_of.commands ∙ length-map plan.actuators (λ (actuator : ActuatorRow). expr_code actuator.value)
+
+-- a processor that has run the slot at hand over the cells, has gone on by one slot and has the commands over the cells after it
 pub frame_stands : (plan : PlanParts) (past : List (List ℤ)) (sensors : List ℤ) (before after : Processor) (slots : ℕ)
     → StandsAfter plan past before → slots ≡ length before.table.slots
     → after.table ≡ before.table

@@ -1,4 +1,5 @@
--- What it is for a processor to stand behind frames of a plan. A history here lists the sensor values of the frames so far, the newest first.
+-- What it is for a processor to stand after frames of a plan.
+-- A history here lists the sensor values of the frames so far, the newest first.
 -- After NASA TM-102716.
 use Rattle.std.specs.Prelude.{◌≡◌, ℤ, List, [], ◌∷◌, map, Option, Some, None}
 use Rattle.rcp_model.specs.declared.plan.ActuatorRow.{ActuatorRow}
@@ -18,7 +19,7 @@ abbrev pub ideal_commands : PlanParts → List (List ℤ) → Option (List ℤ)
 ideal_commands plan [] = None
 ideal_commands plan (sensors ∷ past) = Some (map (λ (actuator : ActuatorRow). ideal_command plan actuator sensors past) plan.actuators)
 
--- behind these frames a processor has the table of the plan, and the state and the commands of the single processor
+-- after these frames a processor has the table of the plan, and the state and the commands of the single processor
 pub record StandsAfter (plan : PlanParts) (past : List (List ℤ)) (uni : Processor) : Type 0 where
   pub table : IsOf plan uni.table
   pub state : uni.state ≡ ideal_state plan past

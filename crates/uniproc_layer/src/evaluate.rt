@@ -10,9 +10,10 @@ use frame_table::Table;
 
 /// Puts each actuator's command over these cells in its place.
 pub fn evaluate(table: &mut Table, sensors: &[i64], cells: &[i64], commands: &mut [i64])
-    requires places { length commands.old ≡ length table.old.commands }
-    requires few { length commands.old < 2 ^ 32 }
-    ensures commands { (plan : PlanParts) → IsOf plan table.old → commands.new ≡ map (λ (actuator : ActuatorRow). actuator_value actuator sensors.now cells.now) plan.actuators }
+    requires { length commands.old < 2 ^ 32 }
+    ensures commands { (plan : PlanParts) → IsOf plan table.old
+        → length commands.old ≡ length plan.actuators → commands.new
+        ≡ map (λ (a : ActuatorRow). actuator_value a sensors.now cells.now) plan.actuators }
     ensures table { table.new ≡ table.old }
 {
     for number in 0..commands.len() {

@@ -5,7 +5,4 @@
 mod evaluate;
 mod uni;
 
-pub use uni::{Uni, initial_values};
-
-#[cfg(test)]
-mod tests;
+pub use uni::Uni;

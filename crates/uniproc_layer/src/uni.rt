@@ -31,7 +31,11 @@ impl Model for Uni {
 
     ghost Value = { Processor };
 
-    ghost view = { λ uni. record { table = uni.table; state = record { slot = uni.slot; cells = uni.cells.items }; commands = if uni.ran then Some uni.commands.items else None } };
+    ghost view = { λ uni. record {
+      table = uni.table;
+      state = record { slot = uni.slot; cells = uni.cells.items };
+      commands = if uni.ran then Some uni.commands.items else None;
+    } };
 
     ghost invariant = { λ uni. (uni.slots ≡ length uni.table.slots)
         × (uni.slot < uni.slots)
@@ -48,9 +52,10 @@ impl Uni {
         uni_of(alloc, table, plan.parts())
     }
 
-    /// Runs the slot at hand, goes on to the next one, and evaluates the commands over the cells behind it.
+    /// Runs the slot at hand, goes on to the next one, and evaluates the commands over the cells after it.
     pub fn frame(&mut self, sensors: &[i64])
-        ensures { (plan : PlanParts) (past : List (List ℤ)) → StandsAfter plan past self.old → StandsAfter plan (sensors.now ∷ past) self.new }
+        ensures { (plan : PlanParts) (past : List (List ℤ)) → StandsAfter plan past self.old
+            → StandsAfter plan (sensors.now ∷ past) self.new }
     {
         self.table
             .run_slot(self.slot, sensors, self.cells.as_mut_slice());
@@ -66,29 +71,33 @@ impl Uni {
 
     /// The slot that the next frame runs.
     pub fn slot(&self) -> u32
-        ensures { (plan : PlanParts) (past : List (List ℤ)) → StandsAfter plan past self.now → result ≡ uniprocessor.ideal_slot plan past }
+        ensures { (plan : PlanParts) (past : List (List ℤ)) → StandsAfter plan past self.now
+            → result ≡ uniprocessor.ideal_slot plan past }
     {
         self.slot
     }
 
     /// The cells.
     pub fn cells(&self) -> &[i64]
-        ensures { (plan : PlanParts) (past : List (List ℤ)) → StandsAfter plan past self.now → result.now ≡ uniprocessor.ideal_cells plan past }
+        ensures { (plan : PlanParts) (past : List (List ℤ)) → StandsAfter plan past self.now
+            → result.now ≡ uniprocessor.ideal_cells plan past }
     {
         self.cells.as_slice()
     }
 
     /// A cell. One that isn't there is 0.
     pub fn cell(&self, cell: u32) -> i64
-        ensures { (plan : PlanParts) (past : List (List ℤ)) → StandsAfter plan past self.now → result ≡ slice_index_or (uniprocessor.ideal_cells plan past) cell (pos 0) }
+        ensures { (plan : PlanParts) (past : List (List ℤ)) → StandsAfter plan past self.now
+            → result ≡ slice_index_or (uniprocessor.ideal_cells plan past) cell (pos 0) }
     {
         item_of(self.cells.as_slice(), cell)
     }
 
     /// The command of an actuator in the last frame, and none before the first. That of an actuator that isn't there is 0.
     pub fn command(&self, actuator: u32) -> Option<i64>
-        ensures { (plan : PlanParts) (past : List (List ℤ)) → StandsAfter plan past self.now →
-            result ≡ option_map (λ commands. slice_index_or commands actuator (pos 0)) (ideal_commands plan past) }
+        ensures { (plan : PlanParts) (past : List (List ℤ)) → StandsAfter plan past self.now
+            → result ≡ option_map (λ commands. slice_index_or commands actuator (pos 0))
+            (ideal_commands plan past) }
     {
         if self.ran {
             Some(item_of(self.commands.as_slice(), actuator))
@@ -98,8 +107,8 @@ impl Uni {
     }
 }
 
-/// The processor before the first frame of parts that have slots, and not too many slots and actuators.
-pub fn uni_of(alloc: Global, table: Table, parts: &PlanParts) -> Result<Uni, Memory>
+// The processor before the first frame of parts that have slots, and not too many slots and actuators.
+fn uni_of(alloc: Global, table: Table, parts: &PlanParts) -> Result<Uni, Memory>
     requires table { IsOf parts.now table }
     requires slots { (1 ≤ length parts.now.slots) × (length parts.now.slots < 2 ^ 32) }
     requires actuators { length parts.now.actuators < 2 ^ 32 }
@@ -124,8 +133,8 @@ fn item_of(items: &[i64], place: u32) -> i64
     items.get(place as usize).copied().unwrap_or(0)
 }
 
-/// The values of sensors or cells before the first frame.
-pub fn initial_values(alloc: Global, variables: &[Variable]) -> Result<Vec<i64>, Memory>
+// The values of cells before the first frame.
+fn initial_values(alloc: Global, variables: &[Variable]) -> Result<Vec<i64>, Memory>
     ensures { IfOk result (λ values. values.items ≡ uniprocessor.initial_values variables.now) }
 {
     Ok(

@@ -1,12 +1,12 @@
 -- The fields are those of one frame more.
-use Rattle.std.proofs.Common.{rules, ℤ, List, Some, map, refl, ap, sym, ◌∙◌, subst}
+use Rattle.std.proofs.Common.{rules, ℤ, List, Some, length, map, refl, ap, sym, ◌∙◌, subst}
 use Rattle.std.proofs.lemmas.List.{with_items_is, places}
 use Rattle.rcp_model.specs.declared.plan.ActuatorRow.{ActuatorRow}
 use Rattle.rcp_model.specs.Slot.{cells_after_slot, actuator_value}
 use Rattle.frame_table.specs.declared.table.Table.{Table}
 use Rattle.frame_table.specs.Plan.{IsOf}
 use Rattle.uniproc_layer.specs.Uni.{Processor, StandsAfter}
-use Rattle.uniproc_layer.proofs.UniLemmas.{frame_stands}
+use Rattle.uniproc_layer.proofs.UniLemmas.{as_many_commands, frame_stands}
 use Rattle.uniproc_layer.proofs.uni.Uni.frame.Goals as goal
 
 pub returns : goal.returns
@@ -23,4 +23,5 @@ returns c plan past stands =
     (kept ∙ c.run_slot.ensures.cells plan before.table ∙ ap (λ cells. cells_after_slot plan c.self.inside.slot sensors cells) c.as_mut_slice.ensures.value)
     (ap (λ values. Some values) (with_items_is c.self.inside.commands c.evaluate.new.commands (search (rules, places))
     ∙ c.evaluate.ensures.commands plan (subst Q (sym c.run_slot.ensures.table) before.table)
+    (ap length c.as_mut_slice-2.ensures.value ∙ as_many_commands plan _ _ before.table c.self.invariant.2)
     ∙ ap commands c.as_slice.ensures.value))
