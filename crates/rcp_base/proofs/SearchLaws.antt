@@ -108,6 +108,18 @@ first_is (suc n) test h =
           ]
     ]
 
+-- there is one first number that passes
+pub first_is_one : (n : ℕ) (test : ℕ → Bool) (v : ℕ) → IsFirst n test v → v ≡ first_below n test
+first_is_one n test v r =
+    let f = first_is n test (any_of n test v r.below r.passes) in
+    elim (cases_lt v (first_below n test)) [
+      | inl a ↦ absurd (both_ways (test v) (f.none v a) r.passes)
+      | inr a ↦ elim (cases_lt (first_below n test) v) [
+        | inl b ↦ absurd (both_ways (test (first_below n test)) (r.none (first_below n test) b) f.passes)
+        | inr b ↦ omega arith
+      ]
+    ]
+
 -- a place below n at which f is least
 pub record IsLowest (n : ℕ) (f : ℕ → ℕ) (at : ℕ) : Type 0 where
   pub below : at < n

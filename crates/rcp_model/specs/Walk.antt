@@ -49,6 +49,10 @@ pub record EndsWalk (g : Graph) (k : ℕ) (n : Node) : Type 0 where
   pub some : 0 < k
   pub last : at nodes (k - 1) ≡ n
 
+-- no unvoted walk has so many nodes
+abbrev pub HasNoWalk : Graph → ℕ → Type 0
+HasNoWalk g k = (n : Node) → EndsWalk g k n → ⊥
+
 -- an unvoted walk of distinct nodes, the last of which steps to the first
 pub record IsUnvotedCycle (g : Graph) (nodes : List Node) : Type 0 where
   pub some : 0 < length nodes

@@ -7,11 +7,10 @@ use Rattle.std.specs.List.{range_with_len}
 use Rattle.rcp_model.specs.declared.node.Node.{Node}
 use Rattle.rcp_model.specs.Walk.{Graph, node_count, no_node}
 use Rattle.rcp_model.specs.Levels.{number, has_cycle}
-use Rattle.recovery_analysis.specs.Levels.{back_times}
 use Rattle.rcp_model.specs.Levels.{is_core}
 use Rattle.rcp_model.specs.Shown.{path, back_node}
 use Rattle.rcp_model.specs.Witness.{IsWitnessCycle}
-use Rattle.rcp_model.specs.inner.Around.{IsPeriod, IsLeastPlace, IsLeastAround}
+use Rattle.rcp_model.specs.inner.Around.{IsPeriod, IsLeastAround}
 use Rattle.rcp_model.specs.Shown.{period_of, around, cycle_nodes}
 use Rattle.rcp_model.proofs.CoreLaws.{path_at, path_same, path_core}
 use Rattle.rcp_model.proofs.CycleLaws.{is_period, around_returns, around_distinct, cycle_is_witness}
@@ -79,6 +78,11 @@ turn_end g least h r =
       };
       is = r.is;
     }
+
+-- the node to which so many steps back from a node lead
+abbrev pub back_times : Graph → Node → ℕ → Node
+back_times g n zero = n
+back_times g n (suc t) = back_node g (back_times g n t)
 
 pub back_around : (g : Graph) (s : ℕ) (least : Node) → least ≡ path g (s + node_count g) → (t : ℕ) → back_times g least t ≡ around g s t
 back_around g s least e zero = e ∙ path_at g (s + node_count g) (0 + (s + node_count g)) (omega arith)

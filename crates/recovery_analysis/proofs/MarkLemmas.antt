@@ -1,24 +1,29 @@
--- What the marks say, and the least node from which a marked node steps to a node.
-use Rattle.std.proofs.Common.{◌≢◌, length-append, Option, Some, None, ◌≡◌, ℕ, ◌+◌, ◌-◌, ◌*◌, ◌/◌, ◌%◌, ◌<◌, ◌≤◌, zero, suc, Bool, true, false, ◌&&◌, eqb, List, [], ◌∷◌, ◌++◌, length, get_or, inl, inr, sym, ◌∙◌, ap, subst, arith}
-use Rattle.std.proofs.lemmas.Bool.{cases_lt, cases_eq, both_ways, and_parts, eq-eqb, ne_eqb, cond-true, cond-false, false_from_ne_true}
-use Rattle.std.proofs.lemmas.Nat.{mul-add-lt, same_from_place, div_below}
+-- Levels as words, and the least node from which a node of a level steps to a node.
+use Rattle.std.proofs.Common.{length-append, ◌≡◌, ℕ, ◌+◌, ◌*◌, ◌/◌, ◌%◌, ◌<◌, ◌≤◌, suc, Bool, true, false, ◌&&◌, eqb, List, [], ◌∷◌, ◌++◌, length, get_or, inl, inr, sym, ◌∙◌, ap, subst, arith, refl}
+use Rattle.std.proofs.lemmas.Bool.{cases_lt, cases_eq, cases_Bool, both_ways, and_parts, eq-eqb, ne_eqb, cond-true, cond-false, false_from_ne_true}
+use Rattle.std.proofs.lemmas.Nat.{mul-add-lt, div_below}
+use Rattle.std.proofs.Math.Bool.{and_comm}
 use Rattle.std.proofs.Math.Nat.{mul-le-mul_right, mod-lt, mod-eq_of_lt, mod_self}
-use Rattle.std.proofs.lemmas.List.{get_or_append_left, get_or_at}
+use Rattle.std.proofs.lemmas.List.{get_or_append_left, get_or_at, get_or_read}
 use Rattle.std.specs.Prelude.{bit_and}
 use Rattle.rcp_base.specs.Bits.{has_bit}
-use Rattle.rcp_base.specs.Bits.{WritesBit}
-use Rattle.rcp_model.specs.declared.node.Node.{Node}
-use Rattle.rcp_model.specs.Walk.{Graph, node_count, IsUnvoted}
-use Rattle.recovery_analysis.specs.Levels.{AnswersBefore, AreWords, IsWordOf, slot_before, enters}
-use Rattle.rcp_model.specs.Node.{make_node}
-use Rattle.rcp_model.specs.Walk.{IsNode}
-use Rattle.rcp_model.specs.Levels.{node_of, is_unvoted, steps_to, level, goes}
 use Rattle.rcp_base.specs.Search.{any_below, first_below, IsFirst}
-use Rattle.rcp_base.proofs.SearchLaws.{any_of, none_any, first_is}
-use Rattle.rcp_model.proofs.LevelLaws.{node_of-number, level_unvoted, level_zero, is_unvoted_from, steps_to_parts}
+use Rattle.rcp_base.proofs.SearchLaws.{both_or_none, any_of, any_found, any_same, none_any, first_is_one}
+use Rattle.rcp_base.proofs.BitLaws.{has_bit_and}
+use Rattle.rcp_model.specs.declared.node.Node.{Node}
+use Rattle.rcp_model.specs.Node.{make_node}
+use Rattle.rcp_model.specs.Walk.{Graph, IsNode, node_count}
+use Rattle.rcp_model.specs.Levels.{node_of, is_unvoted, steps_to, level, goes, has_level_node}
+use Rattle.rcp_model.proofs.LevelLaws.{node_of-number, level_unvoted, is_unvoted_parts, steps_to_parts}
 use Rattle.rcp_model.proofs.CoreLaws.{number-node_of}
-use Rattle.rcp_base.proofs.BitLaws.{has_bit_and, has_bit_zero}
-use Rattle.std.specs.Option.{is_some, MatchOption}
+use Rattle.rcp_model.proofs.WalkLaws.{goes_some}
+use Rattle.vote_pattern.specs.Votes.{Votes, AreUnvoted}
+use Rattle.task_graph.specs.Rows.{Rows}
+use Rattle.recovery_analysis.specs.Graphs.{graph_of, IsOneSize}
+use Rattle.recovery_analysis.specs.inner.Steps.{is_fed, is_next, AreNext}
+use Rattle.recovery_analysis.specs.inner.Levels.{Levels, graph_in, slot_before, enters, IsLevel, IsLevelAfter, IsLeastAt}
+use Rattle.recovery_analysis.specs.inner.LevelFields.{AreLevels}
+use Rattle.recovery_analysis.proofs.StepLemmas.{unvoted_bits}
 
 row_place : (s c M C : ℕ) → s < M → c < C → s * C + c < M * C
 row_place s c M C h k = let l = mul-add-lt s C c M h k in omega arith
@@ -99,53 +104,17 @@ none_before g k n node r =
     both_ways (goes g k n w)
     (ap (goes g k n) q.place ∙ sym (enters_is g k n (w % g.cells) node q.cell_in) ∙ r (w % g.cells) q.cell_in) t))
 
-pub level_more : (g : Graph) (k : ℕ) (n : Node) → IsUnvoted g n → level g (suc k) n ≡ any_below (node_count g) (goes g k n)
-unfolding level
-level_more g k n u = and-true (is_unvoted g n) (any_below (node_count g) (goes g k n)) (is_unvoted_from g n u)
-
-pub some_is_level : (g : Graph) (k : ℕ) (n : Node) (o : Option ℕ) → IsUnvoted g n → AnswersBefore g k n o → is_some o ≡ level g (suc k) n
-some_is_level g k n None u a = sym (level_more g k n u ∙ none_before g k n (record { slot_in = u.slot_in; cell_in = u.cell_in }) a)
-some_is_level g k n (Some d) u a =
-    let r = first_before g k n d (record { slot_in = u.slot_in; cell_in = u.cell_in }) a in
-    sym (level_more g k n u ∙ any_of (node_count g) (goes g k n) (slot_before g n.slot * g.cells + d) r.below r.passes)
-
 pub node_in : (g : Graph) (v : ℕ) → v < node_count g → IsNode g (node_of g v)
 node_in g v h = elim (cases_eq g.cells 0) [
   | inl a ↦ let e : g.slots * g.cells ≡ 0 = ap (λ (x : ℕ). g.slots * x) a ∙ omega arith in absurd (omega arith)
   | inr a ↦ record { slot_in = div_below v g.cells g.slots (omega arith) h; cell_in = mod-lt v (omega arith) }
 ]
 
-pub row_below : (k n : ℕ) → 0 < k → (k - 1) * n + n ≡ k * n
-row_below zero n h = absurd (omega arith)
-row_below (suc k) n h = let e : suc k - 1 ≡ k = omega arith in rw e (omega arith)
-
-pub level_found : (g : Graph) (k : ℕ) (n : Node) (o : Option ℕ) → IsNode g n → 0 < k → g.votes n.slot n.cell ≡ false → AnswersBefore g (k - 1) n o → is_some o ≡ level g k n
-level_found g k n o node some f a =
-    let e : suc (k - 1) ≡ k = omega arith in
-    some_is_level g (k - 1) n o (record { slot_in = node.slot_in; cell_in = node.cell_in; unvoted = f }) a ∙ ap (λ (x : ℕ). level g x n) e
-
-pub level_0 : (g : Graph) (k : ℕ) (n : Node) → IsNode g n → k ≡ 0 → g.votes n.slot n.cell ≡ false → true ≡ level g k n
-level_0 g k n node e f = sym (level_zero g n (record { slot_in = node.slot_in; cell_in = node.cell_in; unvoted = f })) ∙ ap (λ (x : ℕ). level g x n) (sym e)
-
-pub level_voted : (g : Graph) (k : ℕ) (n : Node) → g.votes n.slot n.cell ≡ true → false ≡ level g k n
-level_voted g k n h = sym (false_from_ne_true (level g k n) (λ t. both_ways (g.votes n.slot n.cell) (level_unvoted g k n t).unvoted h))
-
-pub first_unique : (n : ℕ) (p : ℕ → Bool) (v : ℕ) → IsFirst n p v → v ≡ first_below n p
-first_unique n p v r =
-    let f = first_is n p (any_of n p v r.below r.passes) in
-    elim (cases_lt v (first_below n p)) [
-      | inl a ↦ absurd (both_ways (p v) (f.none v a) r.passes)
-      | inr a ↦ elim (cases_lt (first_below n p) v) [
-        | inl b ↦ absurd (both_ways (p (first_below n p)) (r.none (first_below n p) b) f.passes)
-        | inr b ↦ omega arith
-      ]
-    ]
-
 -- the first of the cells is the first of the nodes
 pub back_found : (g : Graph) (k : ℕ) (n : Node) (d : ℕ) → IsNode g n → IsFirst g.cells (enters g k n) d → make_node (slot_before g n.slot) d ≡ node_of g (first_below (node_count g) (goes g k n))
 back_found g k n d node r =
     sym (node_of-number g (make_node (slot_before g n.slot) d) r.below)
-    ∙ ap (node_of g) (first_unique (node_count g) (goes g k n) (slot_before g n.slot * g.cells + d) (first_before g k n d node r))
+    ∙ ap (node_of g) (first_is_one (node_count g) (goes g k n) (slot_before g n.slot * g.cells + d) (first_before g k n d node r))
 
 -- the first cell of the first slot is the first node
 pub first_node : (g : Graph) (k s c : ℕ) → ((r d : ℕ) → r < s → level g k (make_node r d) ≡ false) → level g k (make_node s c) ≡ true → ((d : ℕ) → d < c → level g k (make_node s d) ≡ false) → IsFirst (node_count g) (λ v. level g k (node_of g v)) (s * g.cells + c)
@@ -174,76 +143,134 @@ first_node g k s c slots here cells =
 pub no_node_marked : (g : Graph) (k : ℕ) → ((r d : ℕ) → r < g.slots → level g k (make_node r d) ≡ false) → any_below (node_count g) (λ v. level g k (node_of g v)) ≡ false
 no_node_marked g k h = none_any (node_count g) (λ v. level g k (node_of g v)) (λ w l. let n = node_in g w l in h (w / g.cells) (w % g.cells) n.slot_in)
 
--- the bits of a word are the cells that feed the node's cell
-abbrev pub AreFeeding : Graph → Node → ℕ → Type 0
-AreFeeding g n a = (d : ℕ) → d < g.cells → has_bit a d ≡ g.feeds n.slot d n.cell
+-- some cell at the slot before is such exactly where some node is
+any_enters : (g : Graph) (k : ℕ) (n : Node) → IsNode g n → any_below g.cells (enters g k n) ≡ any_below (node_count g) (goes g k n)
+any_enters g k n node = both_or_none (any_below g.cells (enters g k n)) (any_below (node_count g) (goes g k n))
+    (λ h.
+    let f = any_found g.cells (enters g k n) h in
+    any_of (node_count g) (goes g k n) (slot_before g n.slot * g.cells + f.v)
+    (row_place (slot_before g n.slot) f.v g.slots g.cells (slot_before-lt g n.slot node.slot_in) f.below)
+    (sym (enters_is g k n f.v node f.below) ∙ f.passes))
+    (λ h.
+    let f = any_found (node_count g) (goes g k n) h in
+    let b = before_is g k n f.v node f.passes in
+    any_of g.cells (enters g k n) (f.v % g.cells) b.cell_in
+    (enters_is g k n (f.v % g.cells) node b.cell_in ∙ ap (goes g k n) (sym b.place) ∙ f.passes))
 
-pub word_common : (g : Graph) (k : ℕ) (n : Node) (a w : ℕ) → AreFeeding g n a → IsWordOf g k (slot_before g n.slot) w → (d : ℕ) → d < g.cells → has_bit (bit_and a w) d ≡ enters g k n d
-word_common g k n a w f h d l =
-    has_bit_and a w d ∙ ap (λ (x : Bool). x && has_bit w d) (f d l) ∙ ap (λ (x : Bool). g.feeds n.slot d n.cell && x) (h d)
+-- the cells of the word end an unvoted walk of k + 1 nodes at the slot before
+abbrev pub ArePlaced : Graph → ℕ → ℕ → ℕ → Type 0
+ArePlaced g k s word = (d : ℕ) → has_bit word d ≡ level g k (make_node (slot_before g s) d)
 
--- what the first common bit of a row and a level says
-pub answers_before : (g : Graph) (k : ℕ) (n : Node) (a w : ℕ) (o : Option ℕ) → AreFeeding g n a → IsWordOf g k (slot_before g n.slot) w → MatchOption o ((i : ℕ) → has_bit (bit_and a w) i ≡ false) (λ i. IsFirst 64 (has_bit (bit_and a w)) i) → AnswersBefore g k n o
-answers_before g k n a w None f h r = λ d l. sym (word_common g k n a w f h d l) ∙ r d
-answers_before g k n a w (Some i) f h r =
-    let both = and_parts (has_bit a i) (has_bit w i) (sym (has_bit_and a w i) ∙ r.passes) in
-    let u = level_unvoted g k (make_node (slot_before g n.slot) i) (sym (h i) ∙ both.1) in
-    let in_cells : i < g.cells = u.cell_in in
-    record {
-      below = u.cell_in;
-      passes = sym (word_common g k n a w f h i in_cells) ∙ r.passes;
-      none = λ d l. sym (word_common g k n a w f h d (omega arith)) ∙ r.none d l;
-    }
-
--- one word more
-pub words_push : (g : Graph) (words new : List ℕ) (k s w : ℕ) → AreWords g words → s < g.slots → length words ≡ k * g.slots + s → IsWordOf g k s w → new ≡ words ++ w ∷ [] → AreWords g new
-words_push g words new k s w are below long is e j r r_in room c =
-    let more : length new ≡ length words + 1 = ap length e ∙ length-append words (w ∷ []) in
-    elim (cases_lt (j * g.slots + r) (length words)) [
-      | inl a ↦
-          ap (λ (xs : List ℕ). has_bit (get_or xs (j * g.slots + r) 0) c) e
-          ∙ ap (λ (x : ℕ). has_bit x c) (get_or_append_left words (w ∷ []) 0 (j * g.slots + r) a)
-          ∙ are j r r_in a c
-      | inr a ↦
-          let same = same_from_place j r k s g.slots r_in below (omega arith) in
-          ap (λ (xs : List ℕ). has_bit (get_or xs (j * g.slots + r) 0) c) e
-          ∙ ap (λ (x : ℕ). has_bit x c) (get_or_at words w [] 0 (j * g.slots + r) (omega arith))
-          ∙ is c
-          ∙ ap (λ (x : ℕ). level g x (make_node s c)) (sym same.0)
-          ∙ ap (λ (x : ℕ). level g j (make_node x c)) (sym same.1)
+-- a step from a level leads to the next
+step_is_level : (g : Graph) (k s c word : ℕ) → ArePlaced g k s word → is_next g word s c ≡ level g (suc k) (make_node s c)
+unfolding level
+step_is_level g k s c word placed =
+    let n : Node = make_node s c in
+    let free = is_unvoted g n in
+    let some = any_below (node_count g) (goes g k n) in
+    elim (cases_Bool (is_unvoted g n)) [
+      | inl t ↦
+          let u = is_unvoted_parts g n t in
+          let same : is_fed g word s c ≡ any_below g.cells (enters g k n) =
+          any_same g.cells (λ d. has_bit word d && g.feeds s d c) (enters g k n)
+          (λ d l. ap (λ (b : Bool). b && g.feeds s d c) (placed d) ∙ and_comm (level g k (make_node (slot_before g s) d)) (g.feeds s d c)) in
+          ap (λ (b : Bool). free && b) (same ∙ any_enters g k n (record { slot_in = u.slot_in; cell_in = u.cell_in }))
+      | inr f ↦ ap (λ (b : Bool). b && is_fed g word s c) f ∙ sym (ap (λ (b : Bool). b && some) f)
     ]
 
-pub words_none : (g : Graph) → AreWords g []
-words_none g k s l room c = absurd (omega arith)
+pub next_is_level : (g : Graph) (words next : List ℕ)
+    → ((s : ℕ) → s < g.slots → AreNext g (get_or words (slot_before g s) 0) s (get_or next s 0)) → IsLevelAfter g words next
+next_is_level g words next are k is s c l =
+    are s l c
+    ∙ step_is_level g k s c (get_or words (slot_before g s) 0) (λ d. is (slot_before g s) d (slot_before-lt g s l))
+    ∙ ap (λ (x : ℕ). level g x (make_node s c)) (omega arith)
 
--- the bits below a cell are there, and no other
-pub record WordBelow (g : Graph) (k s i w : ℕ) : Type 0 where
-  pub below : (c : ℕ) → c < i → has_bit w c ≡ level g k (make_node s c)
-  pub none : (c : ℕ) → i ≤ c → has_bit w c ≡ false
+level_of_one : (g : Graph) (n : Node) → is_unvoted g n ≡ level g 0 n
+unfolding level
+level_of_one g n = refl
 
-pub word_begin : (g : Graph) (k s : ℕ) → WordBelow g k s 0 0
-word_begin g k s = record { below = λ c l. absurd (omega arith); none = λ c l. has_bit_zero c }
+pub first_is_level : (rows : Rows) (votes : Votes) (words : List ℕ) → IsOneSize rows votes
+    → ((s : ℕ) → s < rows.slots → AreUnvoted votes s (get_or words s 0)) → IsLevel (graph_of rows votes) 0 words
+first_is_level rows votes words size are s c l =
+    unvoted_bits rows votes s (get_or words s 0) c size l (are s l) ∙ level_of_one (graph_of rows votes) (make_node s c)
 
-pub word_set : (g : Graph) (k s i w new : ℕ) → WordBelow g k s i w → WritesBit w new i true → level g k (make_node s i) ≡ true → WordBelow g k s (i + 1) new
-word_set g k s i w new r sets t = record {
-  below = λ c l. elim (cases_eq c i) [
-    | inl a ↦ ap (has_bit new) a ∙ sets.here ∙ sym t ∙ ap (λ (x : ℕ). level g k (make_node s x)) (sym a)
-    | inr a ↦ sets.others c a ∙ r.below c (omega arith)
-  ];
-  none = λ c l. let ne : c ≢ i = λ e. omega arith in sets.others c ne ∙ r.none c (omega arith);
-}
+-- the slots below have no cell
+abbrev pub AreEmptyBelow : ℕ → List ℕ → Type 0
+AreEmptyBelow slot words = (s c : ℕ) → s < slot → has_bit (get_or words s 0) c ≡ false
 
-pub word_kept : (g : Graph) (k s i w : ℕ) → WordBelow g k s i w → level g k (make_node s i) ≡ false → WordBelow g k s (i + 1) w
-word_kept g k s i w r t = record {
-  below = λ c l. elim (cases_eq c i) [
-    | inl a ↦ r.none c (omega arith) ∙ sym t ∙ ap (λ (x : ℕ). level g k (make_node s x)) (sym a)
-    | inr a ↦ r.below c (omega arith)
-  ];
-  none = λ c l. r.none c (omega arith);
-}
+pub least_found : (g : Graph) (k s c : ℕ) (words : List ℕ) → s < g.slots → AreEmptyBelow s words → IsFirst 64 (has_bit (get_or words s 0)) c
+    → IsLevel g k words → IsLeastAt g k (make_node s c)
+least_found g k s c words l empty first is =
+    let test : ℕ → Bool = λ v. level g k (node_of g v) in
+    let here : level g k (make_node s c) ≡ true = sym (is s c l) ∙ first.passes in
+    let below : (r d : ℕ) → r < s → level g k (make_node r d) ≡ false = λ r d m. sym (is r d (omega arith)) ∙ empty r d m in
+    let r = first_node g k s c below here (λ d m. sym (is s d l) ∙ first.none d m) in
+    let u = level_unvoted g k (make_node s c) here in
+    record {
+      some = any_of (node_count g) test (s * g.cells + c) r.below r.passes;
+      is = sym (node_of-number g (make_node s c) u.cell_in) ∙ ap (node_of g) (first_is_one (node_count g) test (s * g.cells + c) r);
+    }
 
-pub word_end : (g : Graph) (k s w : ℕ) → WordBelow g k s g.cells w → IsWordOf g k s w
-word_end g k s w r c = elim (cases_lt c g.cells) [
-  | inl a ↦ r.below c a
-  | inr a ↦ r.none c a ∙ sym (false_from_ne_true (level g k (make_node s c)) (λ t. let l : c < g.cells = (level_unvoted g k (make_node s c) t).cell_in in omega arith))
-]
+pub none_found_at : (g : Graph) (k slots : ℕ) (words : List ℕ) → g.slots ≡ slots → AreEmptyBelow slots words → IsLevel g k words
+    → has_level_node g k ≡ false
+none_found_at g k slots words same empty is = no_node_marked g k (λ s c l. sym (is s c l) ∙ empty s c (omega arith))
+
+-- one level more
+pub levels_push : (g : Graph) (words new : List (List ℕ)) (next : List ℕ) → AreLevels g words → new ≡ words ++ next ∷ []
+    → IsLevel g (length words) next → AreLevels g new
+levels_push g words new next are e is k l =
+    let more : length new ≡ length words + 1 = ap length e ∙ length-append words (next ∷ []) in
+    elim (cases_lt k (length words)) [
+      | inl a ↦
+          subst (IsLevel g k)
+          (sym (ap (λ (xs : List (List ℕ)). get_or xs k []) e ∙ get_or_append_left words (next ∷ []) [] k a)) (are k a)
+      | inr a ↦
+          let here : k ≡ length words = omega arith in
+          subst (IsLevel g k) (sym (ap (λ (xs : List (List ℕ)). get_or xs k []) e ∙ get_or_at words next [] [] k (sym here)))
+          (subst (λ (x : ℕ). IsLevel g x next) (sym here) is)
+    ]
+
+-- the bits of a word are the cells that feed the node's cell
+abbrev AreFeeding : Graph → Node → ℕ → Type 0
+AreFeeding g n a = (d : ℕ) → has_bit a d ≡ g.feeds n.slot d n.cell
+
+both_bits : (g : Graph) (k : ℕ) (n : Node) (a w : ℕ) → AreFeeding g n a → ArePlaced g k n.slot w → (d : ℕ) → has_bit (bit_and a w) d ≡ enters g k n d
+both_bits g k n a w f h d =
+    has_bit_and a w d ∙ ap (λ (x : Bool). x && has_bit w d) (f d) ∙ ap (λ (x : Bool). g.feeds n.slot d n.cell && x) (h d)
+
+-- the first common bit of a row and a level is the node before
+pub first_before_is : (g : Graph) (k : ℕ) (n : Node) (a w d : ℕ) → IsNode g n → AreFeeding g n a → ArePlaced g k n.slot w
+    → IsFirst 64 (has_bit (bit_and a w)) d → make_node (slot_before g n.slot) d ≡ node_of g (first_below (node_count g) (goes g k n))
+first_before_is g k n a w d node f h r =
+    let both = and_parts (has_bit a d) (has_bit w d) (sym (has_bit_and a w d) ∙ r.passes) in
+    let u = level_unvoted g k (make_node (slot_before g n.slot) d) (sym (h d) ∙ both.1) in
+    back_found g k n d node (record {
+      below = u.cell_in;
+      passes = sym (both_bits g k n a w f h d) ∙ r.passes;
+      none = λ e l. sym (both_bits g k n a w f h e) ∙ r.none e l;
+    })
+
+-- and where there is none, no node steps to it
+pub none_before_is : (g : Graph) (k : ℕ) (n : Node) (a w : ℕ) → IsNode g n → AreFeeding g n a → ArePlaced g k n.slot w
+    → ((d : ℕ) → has_bit (bit_and a w) d ≡ false) → any_below (node_count g) (goes g k n) ≡ false
+none_before_is g k n a w node f h r = none_before g k n node (λ d l. sym (both_bits g k n a w f h d) ∙ r d)
+
+-- a node of the level after is one of the graph
+pub node_of_level : (g : Graph) (k : ℕ) (n : Node) → level g (k + 1) n ≡ true → IsNode g n
+node_of_level g k n h = let u = level_unvoted g (k + 1) n h in record { slot_in = u.slot_in; cell_in = u.cell_in }
+
+-- and some node of the level steps to it
+pub some_before : (g : Graph) (k : ℕ) (n : Node) → level g (k + 1) n ≡ true → any_below (node_count g) (goes g k n) ≡ true
+some_before g k n h = goes_some g k n (ap (λ (x : ℕ). level g x n) (omega arith) ∙ h)
+
+-- the same over the fields that hold the levels
+pub marked : (held levels : Levels) (k : ℕ) (n : Node) → held ≡ levels → level (graph_in levels) (k + 1) n ≡ true → level (graph_in held) (k + 1) n ≡ true
+marked held levels k n same h = subst (λ (x : Levels). level (graph_in x) (k + 1) n ≡ true) (sym same) h
+
+-- a word that is read of a level
+pub placed : (g : Graph) (words : List (List ℕ)) (read : List ℕ) (k s b : ℕ) → AreLevels g words → k < length words → read ≡ get_or words k read
+    → s < g.slots → b ≡ slot_before g s → ArePlaced g k s (get_or read b 0)
+placed g words read k s b are l is s_in e d =
+    ap (λ (x : ℕ). has_bit (get_or read x 0) d) e
+    ∙ ap (λ (xs : List ℕ). has_bit (get_or xs (slot_before g s) 0) d) (get_or_read words k read l is [])
+    ∙ are k l (slot_before g s) d (slot_before-lt g s s_in)

@@ -1,5 +1,5 @@
 -- What a graph without unvoted cycles says of the rows and votes that are its own.
-use Rattle.std.proofs.Common.{◌≡◌, false, List, ◌∙◌, sym, subst}
+use Rattle.std.proofs.Common.{◌≡◌, false, List, ◌∙◌, subst}
 use Rattle.std.proofs.lemmas.Bool.{cond-false}
 use Rattle.rcp_model.specs.declared.node.Node.{Node}
 use Rattle.rcp_model.specs.Levels.{has_cycle}

@@ -1,5 +1,5 @@
 -- The verdict on a graph, as it is computed, is right, and is the only one that is.
-use Rattle.std.proofs.Common.{◌≡◌, ℕ, ◌+◌, List, length, inl, inr, sym, ◌∙◌, ap, ap₂, subst, arith}
+use Rattle.std.proofs.Common.{◌≡◌, ◌+◌, length, inl, inr, sym, ◌∙◌, ap, ap₂, subst, arith}
 use Rattle.std.proofs.lemmas.Bool.{cases_Bool, cond-true, cond-false}
 use Rattle.rcp_model.specs.Walk.{Graph}
 use Rattle.rcp_model.specs.Levels.{has_cycle}

@@ -1,4 +1,4 @@
-pub mod Levels
 pub mod Graphs
 pub mod Verdict
 pub mod Laws
+pub mod inner

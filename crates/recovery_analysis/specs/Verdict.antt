@@ -1,10 +1,10 @@
 -- What the analysis of a vote pattern answers. After NASA TM-102716.
-use Rattle.std.specs.Prelude.{◌≡◌, if◌then◌else◌}
+use Rattle.std.specs.Prelude.{◌≡◌, ◌↔◌, ℕ, Bool, IsTrue, if◌then◌else◌}
 use Rattle.task_graph.specs.Rows.{Rows, AreFeedsOf}
 use Rattle.vote_pattern.specs.Votes.{Votes, AreVotesOf}
 use Rattle.recovery_analysis.specs.declared.verdict.Verdict.{Verdict}
 use Rattle.recovery_analysis.specs.declared.verdict.Verdict.TheVariants.{Recovers, Cycle}
-use Rattle.rcp_model.specs.Walk.{Graph}
+use Rattle.rcp_model.specs.Walk.{Graph, HasNoWalk}
 use Rattle.rcp_model.specs.Levels.{has_cycle}
 use Rattle.rcp_model.specs.Shown.{recovery_length, witness_walk, witness_cycle}
 use Rattle.rcp_model.specs.Recovery.{IsRecovery}
@@ -22,3 +22,11 @@ verdict_of g = if has_cycle g then Cycle (witness_cycle g) else Recovers (recove
 -- it is the verdict on each graph that has these rows and votes
 abbrev pub IsVerdictOfGraphs : Rows → Votes → Verdict → Type 0
 IsVerdictOfGraphs rows votes verdict = (g : Graph) → AreFeedsOf g rows → AreVotesOf g votes → verdict ≡ verdict_of g
+
+-- the answer tells whether no unvoted walk has so many nodes
+abbrev pub IsWithin : ℕ → Graph → Bool → Type 0
+IsWithin limit g answer = IsTrue answer ↔ HasNoWalk g limit
+
+-- it tells so of each graph that has these rows and votes
+abbrev pub IsWithinOfGraphs : ℕ → Rows → Votes → Bool → Type 0
+IsWithinOfGraphs limit rows votes answer = (g : Graph) → AreFeedsOf g rows → AreVotesOf g votes → IsWithin limit g answer

@@ -2,61 +2,52 @@
 //! A core node ends an unvoted walk of more nodes than there are, so that a core node steps to it.
 //! This project's own.
 ghost use Rattle.std.specs.Prelude.{IsTrue, ◌≡◌, IfOk};
-ghost use Rattle.rcp_model.specs.Walk.{node_count};
-ghost use Rattle.recovery_analysis.specs.Graphs.{graph_of, IsOneSize};
-ghost use Rattle.recovery_analysis.specs.Levels.{IsFull};
+ghost use Rattle.rcp_model.specs.inner.Around.{IsLeastAround};
 ghost use Rattle.rcp_model.specs.Levels.{is_core};
 ghost use Rattle.rcp_model.specs.Shown.{start_node, back_node, path};
-ghost use Rattle.rcp_model.specs.Levels.{has_cycle};
+ghost use Rattle.rcp_model.specs.Walk.{node_count};
 ghost use Rattle.rcp_model.specs.Witness.{IsWitnessCycle};
-ghost use Rattle.rcp_model.specs.inner.Around.{IsLeastAround};
+ghost use Rattle.recovery_analysis.specs.inner.Levels.{graph_in, HaveCycle};
 
-use crate::levels;
-use crate::walks::{back, list_of};
+use crate::levels::Levels;
+use crate::walks::list_of;
 use rcp_base::{List, Memory};
 use rcp_model::Node;
 use std::alloc::Global;
-use task_graph::DepRows;
-use vote_pattern::Pattern;
 
 // One step back in the core.
-fn core_back(rows: &DepRows, pattern: &Pattern, words: &[u64], node: Node) -> Node
-    requires size { IsOneSize rows.now pattern.now }
-    requires words { IsFull (graph_of rows.now pattern.now) words.now }
-    requires node { IsTrue (is_core (graph_of rows.now pattern.now) node) }
-    ensures value { result ≡ back_node (graph_of rows.now pattern.now) node }
-    ensures core { IsTrue (is_core (graph_of rows.now pattern.now) result) }
+fn core_back(levels: &Levels, node: Node) -> Node
+    requires levels { HaveCycle levels.now }
+    requires node { IsTrue (is_core (graph_in levels.now) node) }
+    ensures value { result ≡ back_node (graph_in levels.now) node }
+    ensures core { IsTrue (is_core (graph_in levels.now) result) }
 {
-    back(rows, pattern, words, levels::node_count(rows), node)
+    levels.back(levels.node_count(), node)
 }
 
 // The node to which as many steps back as there are nodes lead from the least core node.
-fn reached(rows: &DepRows, pattern: &Pattern, words: &[u64], start: Node) -> Node
-    requires size { IsOneSize rows.now pattern.now }
-    requires words { IsFull (graph_of rows.now pattern.now) words.now }
-    requires core { IsTrue (has_cycle (graph_of rows.now pattern.now)) }
-    requires start { start ≡ start_node (graph_of rows.now pattern.now) }
-    ensures { let g = graph_of rows.now pattern.now in result ≡ path g (node_count g) }
+fn reached(levels: &Levels, start: Node) -> Node
+    requires levels { HaveCycle levels.now }
+    requires start { start ≡ start_node (graph_in levels.now) }
+    ensures { let g = graph_in levels.now in result ≡ path g (node_count g) }
 {
     let mut node = start;
-    for _i in 0..levels::node_count(rows) {
-        node = core_back(rows, pattern, words, node);
+    for _i in 0..levels.node_count() {
+        node = core_back(levels, node);
     }
     node
 }
 
 // The least node of the cycle.
-fn turn(rows: &DepRows, pattern: &Pattern, words: &[u64], reached: Node) -> Node
-    requires size { IsOneSize rows.now pattern.now }
-    requires words { IsFull (graph_of rows.now pattern.now) words.now }
-    requires core { IsTrue (has_cycle (graph_of rows.now pattern.now)) }
-    requires reached { let g = graph_of rows.now pattern.now in reached ≡ path g (node_count g) }
-    ensures { IsLeastAround (graph_of rows.now pattern.now) result }
+fn turn(levels: &Levels, reached: Node) -> Node
+    requires levels { HaveCycle levels.now }
+    requires reached { let g = graph_in levels.now in reached ≡ path g (node_count g) }
+    ensures { IsLeastAround (graph_in levels.now) result }
 {
     let mut node = reached;
     let mut least = reached;
-    for _i in 0..levels::node_count(rows) {
-        node = core_back(rows, pattern, words, node);
+    for _i in 0..levels.node_count() {
+        node = core_back(levels, node);
         if node < least {
             least = node;
         }
@@ -65,23 +56,15 @@ fn turn(rows: &DepRows, pattern: &Pattern, words: &[u64], reached: Node) -> Node
 }
 
 // The cycle from its least node.
-fn gather(
-    alloc: Global,
-    rows: &DepRows,
-    pattern: &Pattern,
-    words: &[u64],
-    least: Node,
-) -> Result<List<Node>, Memory>
-    requires size { IsOneSize rows.now pattern.now }
-    requires words { IsFull (graph_of rows.now pattern.now) words.now }
-    requires core { IsTrue (has_cycle (graph_of rows.now pattern.now)) }
-    requires least { IsLeastAround (graph_of rows.now pattern.now) least }
-    ensures { IfOk result (IsWitnessCycle (graph_of rows.now pattern.now)) }
+fn gather(alloc: Global, levels: &Levels, least: Node) -> Result<List<Node>, Memory>
+    requires levels { HaveCycle levels.now }
+    requires least { IsLeastAround (graph_in levels.now) least }
+    ensures { IfOk result (IsWitnessCycle (graph_in levels.now)) }
 {
     let mut nodes = Vec::new(alloc);
     let mut node = least;
-    for _i in 0..levels::node_count(rows) {
-        node = core_back(rows, pattern, words, node);
+    for _i in 0..levels.node_count() {
+        node = core_back(levels, node);
         nodes.push(node)?;
         if node == least {
             nodes.reverse();
@@ -93,20 +76,12 @@ fn gather(
 }
 
 /// The cycle of a graph with a core.
-pub fn cycle_of(
-    alloc: Global,
-    rows: &DepRows,
-    pattern: &Pattern,
-    words: &[u64],
-    start: Node,
-) -> Result<List<Node>, Memory>
-    requires size { IsOneSize rows.now pattern.now }
-    requires words { IsFull (graph_of rows.now pattern.now) words.now }
-    requires core { IsTrue (has_cycle (graph_of rows.now pattern.now)) }
-    requires start { start ≡ start_node (graph_of rows.now pattern.now) }
-    ensures { IfOk result (IsWitnessCycle (graph_of rows.now pattern.now)) }
+pub fn cycle_of(alloc: Global, levels: &Levels, start: Node) -> Result<List<Node>, Memory>
+    requires levels { HaveCycle levels.now }
+    requires start { start ≡ start_node (graph_in levels.now) }
+    ensures { IfOk result (IsWitnessCycle (graph_in levels.now)) }
 {
-    let node = reached(rows, pattern, words, start);
-    let least = turn(rows, pattern, words, node);
-    gather(alloc, rows, pattern, words, least)
+    let node = reached(levels, start);
+    let least = turn(levels, node);
+    gather(alloc, levels, least)
 }

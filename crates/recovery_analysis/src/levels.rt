@@ -1,116 +1,129 @@
 //! Which nodes end an unvoted walk of so many nodes: levels, each one word for each slot.
 //! A walk of one node more ends where a node of the level before steps to.
 //! This project's own.
-ghost use Rattle.std.specs.Prelude.{vec_len, if◌then◌else◌, ◌==◌, ◌≡◌, ◌<◌, ◌≤◌, ◌*◌, ◌+◌, ◌-◌, length, OnOk};
+ghost use Rattle.std.specs.Prelude.{◌≡◌, ◌<◌, ◌≤◌, ◌+◌, ◌*◌, IsTrue, OnOk};
+ghost use Rattle.rcp_base.specs.declared.TheConstants.{MAX_CELLS, MAX_SLOTS};
+ghost use Rattle.rcp_model.specs.Levels.{level, node_before};
+ghost use Rattle.rcp_model.specs.Walk as walk;
 ghost use Rattle.recovery_analysis.specs.Graphs.{graph_of, IsOneSize};
-ghost use Rattle.rcp_model.specs.Levels.{level};
-ghost use Rattle.recovery_analysis.specs.Levels.{AnswersBefore, AreWords, IsWordOf};
-ghost use Rattle.rcp_model.specs.Walk.{IsNode};
+ghost use Rattle.recovery_analysis.specs.inner.Levels.{AnswersLeast, FindsLeast, graph_in, IsLevel, IsLevelAfter};
 
-use rcp_base::{Memory, bits};
+use crate::steps::{next_word, slot_before};
+use rcp_base::{MAX_SLOTS, Memory, bits};
 use rcp_model::Node;
+use std::alloc::Global;
+use std::marker::Model;
 use task_graph::DepRows;
 use vote_pattern::Pattern;
 
-/// How many nodes there are.
-pub fn node_count(rows: &DepRows) -> u32
-    ensures value { result ≡ rows.now.slots * rows.now.cells }
-    ensures small { result ≤ 2048 }
+/// The level of walks of one node: all that are unvoted.
+pub fn first_level(rows: &DepRows, pattern: &Pattern) -> [u64; MAX_SLOTS]
+    requires { IsOneSize rows.now pattern.now }
+    ensures { IsLevel (graph_of rows.now pattern.now) 0 result }
 {
-    rows.slots() * rows.cells()
-}
-
-/// The slot before, in turn.
-pub fn slot_before(rows: &DepRows, slot: u32) -> u32
-    requires { slot < rows.now.slots }
-    ensures value { result ≡ if slot == 0 then rows.now.slots - 1 else slot - 1 }
-    ensures within { result < rows.now.slots }
-{
-    if slot == 0 {
-        rows.slots() - 1
-    } else {
-        slot - 1
+    let mut level = [0; MAX_SLOTS];
+    for slot in 0..rows.slots() {
+        level[slot as usize] = pattern.unvoted(slot);
     }
+    level
 }
 
-/// The least cell at the slot before that steps to the node and ends an unvoted walk of `depth + 1` nodes.
-pub fn cell_before(
-    rows: &DepRows,
-    pattern: &Pattern,
-    words: &[u64],
-    depth: u32,
-    node: Node,
-) -> Option<u32>
-    requires size { IsOneSize rows.now pattern.now }
-    requires depth { depth ≤ rows.now.slots * rows.now.cells }
-    requires node { IsNode (graph_of rows.now pattern.now) node }
-    requires words { AreWords (graph_of rows.now pattern.now) words.now }
-    requires room { (depth + 1) * rows.now.slots ≤ length words.now }
-    ensures { AnswersBefore (graph_of rows.now pattern.now) depth node result }
+/// The level of walks of one node more.
+pub fn next_level(rows: &DepRows, pattern: &Pattern, level: &[u64; MAX_SLOTS]) -> [u64; MAX_SLOTS]
+    requires { IsOneSize rows.now pattern.now }
+    ensures { IsLevelAfter (graph_of rows.now pattern.now) level.now result }
 {
-    let slots = rows.slots();
-    let _count = node_count(rows);
-    let before = slot_before(rows, node.slot);
-    let level = words[depth as usize * slots as usize + before as usize];
-    let word = rows.word(node.slot, node.cell);
-    bits::first_bit(word & level)
-}
-
-/// Whether the node ends an unvoted walk of `depth + 1` nodes.
-fn is_marked(rows: &DepRows, pattern: &Pattern, words: &[u64], depth: u32, node: Node) -> bool
-    requires size { IsOneSize rows.now pattern.now }
-    requires node { IsNode (graph_of rows.now pattern.now) node }
-    requires depth { depth ≤ rows.now.slots * rows.now.cells }
-    requires words { AreWords (graph_of rows.now pattern.now) words.now }
-    requires room { depth * rows.now.slots ≤ length words.now }
-    ensures { result ≡ level (graph_of rows.now pattern.now) depth node }
-{
-    if pattern.has(node.slot, node.cell) {
-        return false;
+    let mut next = [0; MAX_SLOTS];
+    for slot in 0..rows.slots() {
+        let before = slot_before(rows, pattern, slot);
+        next[slot as usize] = next_word(rows, pattern, level[before as usize], slot);
     }
-    if depth == 0 {
-        return true;
-    }
-    let found = cell_before(rows, pattern, words, depth - 1, node);
-    found.is_some()
+    next
 }
 
-/// The cells that end an unvoted walk of `depth + 1` nodes at the slot, as bits.
-fn level_word(rows: &DepRows, pattern: &Pattern, words: &[u64], depth: u32, slot: u32) -> u64
-    requires size { IsOneSize rows.now pattern.now }
-    requires slot { slot < rows.now.slots }
-    requires depth { depth ≤ rows.now.slots * rows.now.cells }
-    requires words { AreWords (graph_of rows.now pattern.now) words.now }
-    requires room { depth * rows.now.slots ≤ length words.now }
-    ensures { IsWordOf (graph_of rows.now pattern.now) depth slot result }
+/// The least node of a level.
+pub fn least_of(slots: u32, level: &[u64; MAX_SLOTS]) -> Option<Node>
+    requires { slots ≤ MAX_SLOTS }
+    ensures { FindsLeast slots level.now result }
 {
-    let cells = rows.cells();
-    let mut word = 0;
-    for cell in 0..cells {
-        if is_marked(rows, pattern, words, depth, Node { slot, cell }) {
-            word = bits::with_bit(word, cell);
+    for slot in 0..slots {
+        if let Some(cell) = bits::first_bit(level[slot as usize]) {
+            return Some(Node { slot, cell });
         }
     }
-    word
+    None
 }
 
-/// Adds the level of walks of `depth + 1` nodes.
-pub fn push_level(
-    rows: &DepRows,
-    pattern: &Pattern,
-    words: &mut Vec<u64>,
-    depth: u32,
-) -> Result<(), Memory>
-    requires size { IsOneSize rows.now pattern.now }
-    requires depth { depth ≤ rows.now.slots * rows.now.cells }
-    requires words { AreWords (graph_of rows.now pattern.now) words.old.items }
-    requires long { vec_len words.old ≡ depth * rows.now.slots }
-    ensures words { OnOk result (AreWords (graph_of rows.now pattern.now) words.new.items) }
-    ensures long { OnOk result (vec_len words.new ≡ (depth + 1) * rows.now.slots) }
-{
-    for slot in 0..rows.slots() {
-        let word = level_word(rows, pattern, words.as_slice(), depth, slot);
-        words.push(word)?;
+/// Levels, one after the other.
+#[derive(Drop)]
+pub struct Levels<'a> {
+    rows: &'a DepRows,
+    pattern: &'a Pattern,
+    words: Vec<[u64; MAX_SLOTS]>,
+}
+
+impl<'a> Model for Levels<'a> {
+    ghost use Rattle.recovery_analysis.specs.inner.Levels as spec;
+    ghost use Rattle.recovery_analysis.specs.inner.LevelFields.{IsLevels, levels_in};
+
+    ghost Value = { spec.Levels };
+
+    ghost view = { levels_in };
+
+    ghost invariant = { IsLevels };
+}
+
+impl<'a> Levels<'a> {
+    pub fn new(alloc: Global, rows: &'a DepRows, pattern: &'a Pattern) -> Levels<'a>
+        requires { IsOneSize rows.now pattern.now }
+        ensures { result ≡ record { rows = rows.now; votes = pattern.now; count = 0 } }
+    {
+        Levels {
+            rows,
+            pattern,
+            words: Vec::new(alloc),
+        }
     }
-    Ok(())
+
+    /// How many nodes there are.
+    pub fn node_count(&self) -> u32
+        ensures value { result ≡ walk.node_count (graph_in self.now) }
+        ensures most { result ≤ MAX_SLOTS * MAX_CELLS }
+    {
+        self.rows.node_count()
+    }
+
+    /// Adds a level.
+    pub fn push(&mut self) -> Result<(), Memory>
+        ensures { OnOk result (self.new ≡ record self.old { count = self.old.count + 1 }) }
+    {
+        let level = match self.words.last() {
+            Some(level) => next_level(self.rows, self.pattern, level),
+            None => first_level(self.rows, self.pattern),
+        };
+        self.words.push(level)?;
+        Ok(())
+    }
+
+    /// The least node that ends an unvoted walk of `depth + 1` nodes.
+    pub fn least(&self, depth: u32) -> Option<Node>
+        requires { depth < self.now.count }
+        ensures { AnswersLeast (graph_in self.now) depth result }
+    {
+        least_of(self.rows.slots(), &self.words[depth as usize])
+    }
+
+    /// The least node that steps to a node and ends an unvoted walk of `depth + 1` nodes.
+    pub fn back(&self, depth: u32, node: Node) -> Node
+        requires depth { depth < self.now.count }
+        requires node { IsTrue (level (graph_in self.now) (depth + 1) node) }
+        ensures { result ≡ node_before (graph_in self.now) depth node }
+    {
+        let slot = slot_before(self.rows, self.pattern, node.slot);
+        let level = self.words[depth as usize][slot as usize];
+        match bits::first_bit(self.rows.word(node.slot, node.cell) & level) {
+            Some(cell) => Node { slot, cell },
+            None => unreachable!(),
+        }
+    }
 }

@@ -5,7 +5,8 @@
 mod cycles;
 pub mod laws;
 mod levels;
+mod steps;
 mod verdict;
 mod walks;
 
-pub use verdict::{Verdict, analyse};
+pub use verdict::{Verdict, analyse, within};

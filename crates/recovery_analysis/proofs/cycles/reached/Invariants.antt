@@ -1,7 +1,7 @@
 use Rattle.std.proofs.Common.{◌≡◌}
-use Rattle.recovery_analysis.specs.Graphs.{graph_of}
+use Rattle.recovery_analysis.specs.inner.Levels.{graph_in}
 use Rattle.rcp_model.specs.Shown.{path}
 use Rattle.recovery_analysis.proofs.cycles.reached.Given as goal
 
 abbrev pub invariant-loop-i : goal.invariant-loop-i
-invariant-loop-i l = l.node ≡ path (graph_of l.rows l.pattern) l._i
+invariant-loop-i l = l.node ≡ path (graph_in l.levels) l._i

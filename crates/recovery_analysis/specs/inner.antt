@@ -1,0 +1,4 @@
+-- Words of private functions, which no promise cites. This project's own.
+pub mod Steps
+pub mod Levels
+pub mod LevelFields
