@@ -62,6 +62,3 @@ pub const MAX_TASK_FILE: u64 = 1_048_576;
 
 /// The most bytes of a journal.
 pub const MAX_JOURNAL: u64 = 67_108_864;
-
-#[cfg(test)]
-mod tests;

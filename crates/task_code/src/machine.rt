@@ -70,11 +70,14 @@ impl Machine {
         out: &mut [i64],
         given: usize,
     ) -> usize
-        requires stack { machine.height_after instruction (length self.old.stack.numbers) ≤ self.old.stack.room }
-        requires lets { machine.lets_after instruction (length self.old.lets.numbers) ≤ self.old.lets.room }
+        requires stack { machine.height_after instruction (length self.old.stack.numbers)
+            ≤ self.old.stack.room }
+        requires lets { machine.lets_after instruction (length self.old.lets.numbers)
+            ≤ self.old.lets.room }
         requires results { given + machine.gives instruction ≤ length out.old }
         ensures step { machine.state_of self.new.stack self.new.lets (take result out.new)
-            ≡ machine.step sensors.now cells.now instruction (machine.state_of self.old.stack self.old.lets (take given out.old)) }
+            ≡ machine.step sensors.now cells.now instruction
+            (machine.state_of self.old.stack self.old.lets (take given out.old)) }
         ensures given { result ≡ given + machine.gives instruction }
         ensures stack_room { self.new.stack.room ≡ self.old.stack.room }
         ensures lets_room { self.new.lets.room ≡ self.old.lets.room }
@@ -116,7 +119,8 @@ impl Machine {
 #[tactic(auto, using(crate::proofs::StackLemmas::length_rest))]
 fn combine(stack: &mut Stack, op: Op)
     requires { length stack.old.numbers - 1 - 1 + 1 ≤ stack.old.room }
-    ensures { stack.new ≡ record stack.old { numbers = machine.two_topmost (expr.op_result op) stack.old.numbers } }
+    ensures { stack.new ≡ record stack.old {
+        numbers = machine.two_topmost (expr.op_result op) stack.old.numbers } }
 {
     let b = stack.pop();
     let a = stack.pop();
@@ -127,7 +131,8 @@ fn combine(stack: &mut Stack, op: Op)
 #[tactic(auto, using(crate::proofs::StackLemmas::length_rest))]
 fn clamp(stack: &mut Stack)
     requires { length stack.old.numbers - 1 - 1 - 1 + 1 ≤ stack.old.room }
-    ensures { stack.new ≡ record stack.old { numbers = machine.three_topmost (λ x low high. int_max low (int_min x high)) stack.old.numbers } }
+    ensures { stack.new ≡ record stack.old { numbers = machine.three_topmost
+        (λ x low high. int_max low (int_min x high)) stack.old.numbers } }
 {
     let high = stack.pop();
     let low = stack.pop();
@@ -139,7 +144,8 @@ fn clamp(stack: &mut Stack)
 #[tactic(auto, using(crate::proofs::StackLemmas::length_rest))]
 fn choose(stack: &mut Stack)
     requires { length stack.old.numbers - 1 - 1 - 1 + 1 ≤ stack.old.room }
-    ensures { stack.new ≡ record stack.old { numbers = machine.three_topmost (λ test a b. if expr.is_true test then a else b) stack.old.numbers } }
+    ensures { stack.new ≡ record stack.old { numbers = machine.three_topmost
+        (λ test a b. if expr.is_true test then a else b) stack.old.numbers } }
 {
     let b = stack.pop();
     let a = stack.pop();
