@@ -1,3 +1,4 @@
+pub mod GoodLemmas
 pub mod ReachLemmas
 pub mod FrontierLemmas
 pub mod TryLemmas

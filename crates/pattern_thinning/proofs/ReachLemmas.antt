@@ -1,140 +1,139 @@
--- A node that is reached again stands on an unvoted cycle, and round an unvoted cycle each node is reached again.
-use Rattle.std.proofs.Common.{ap₂, ◌≡◌, ◌≢◌, ℕ, ◌+◌, ◌-◌, ◌<◌, ◌≤◌, zero, suc, Bool, true, false, ◌&&◌, eqb, List, length, inl, inr, refl, sym, ◌∙◌, ap, subst, arith, add-zero}
-use Rattle.std.proofs.lemmas.Bool.{cases_lt, cases_Bool, both_ways, and_parts, and_from, eqb-true, eqb-false, eq-eqb}
-use Rattle.rcp_base.specs.Search.{any_below}
-use Rattle.rcp_base.proofs.SearchLaws.{both_or_none, any_found, any_of, any_none}
+-- Where one vote is taken away, each new unvoted walk passes through its node.
+use Rattle.std.proofs.Common.{◌≡◌, ◌≢◌, ◌⊎◌, ℕ, ◌+◌, ◌-◌, ◌<◌, ◌≤◌, zero, suc, true, false, ◌&&◌, eqb, inl, inr, refl, sym, ◌∙◌, ap, subst, arith}
+use Rattle.std.proofs.lemmas.Bool.{cases_Bool, cases_lt, both_ways}
+use Rattle.rcp_base.proofs.SearchLaws.{any_found}
 use Rattle.rcp_model.specs.declared.node.Node.{Node}
-use Rattle.rcp_model.specs.Walk.{Graph, at, node_count, IsUnvoted, StepsTo, IsUnvotedCycle}
-use Rattle.rcp_model.specs.Levels.{number, node_of, is_unvoted, steps_to, level, has_cycle}
-use Rattle.rcp_model.specs.Node.{make_node}
-use Rattle.rcp_base.proofs.PigeonholeLaws.{pigeonhole}
-use Rattle.rcp_model.proofs.LevelLaws.{node_of-number, number-lt, number-injective, is_unvoted_parts, is_unvoted_from, steps_to_parts, steps_to_from, level_zero, level_step, level_down}
-use Rattle.rcp_model.proofs.CoreLaws.{has_cycle_from}
-use Rattle.pattern_thinning.specs.Reach.{reaches, comes_back}
-use Rattle.rcp_model.proofs.ShownLaws.{cycle_found, cycle_from}
-use Rattle.rcp_model.proofs.AlikeLaws.{IsAlike, cycle_alike}
+use Rattle.rcp_model.specs.Walk.{Graph, node_count, IsUnvoted, StepsTo}
+use Rattle.rcp_model.specs.Levels.{node_of, level, has_level_node}
+use Rattle.rcp_model.proofs.LevelLaws.{level_zero, level_unvoted, level_step, level_back, level_down}
+use Rattle.rcp_model.proofs.OrderLaws.{same_node, other_node}
+use Rattle.pattern_thinning.specs.inner.Reach.{Reaches, ComesBack, IsFarthest, IsOnWalk}
+use Rattle.rcp_model.proofs.AlikeLaws.{IsAlike, steps_alike, unvoted_alike}
+use Rattle.pattern_thinning.proofs.GoodLemmas.{level_found}
 
-pub reaches_self : (g : Graph) (x : Node) → reaches g x 0 x ≡ true
-unfolding reaches
-reaches_self g x = and_from (eqb x.slot x.slot) (eqb x.cell x.cell) (eq-eqb _ _ refl) (eq-eqb _ _ refl)
+-- steps as they come first
+pub reaches_first : (g : Graph) (k : ℕ) (m n x : Node) → StepsTo g m n → IsUnvoted g n → Reaches g k n x → Reaches g (suc k) m x
+reaches_first g zero m n x s u e = (m, refl, subst (StepsTo g m) (sym e) s, subst (IsUnvoted g) (sym e) u)
+reaches_first g (suc k) m n x s u r = (r.0, reaches_first g k m n r.0 s u r.1, r.2, r.3)
 
-pub reaches_zero : (g : Graph) (x n : Node) → reaches g x 0 n ≡ true → n ≡ x
-unfolding reaches
-reaches_zero g x n h =
-    let p = and_parts (eqb n.slot x.slot) (eqb n.cell x.cell) h in
-    ap₂ make_node (eqb-true _ _ p.0) (eqb-true _ _ p.1)
-
--- the last step
-pub record LastStep (g : Graph) (x : Node) (k : ℕ) (n : Node) : Type 0 where
-  pub m : Node
-  pub reached : reaches g x k m ≡ true
+pub record FirstStep (g : Graph) (k : ℕ) (m x : Node) : Type 0 where
+  pub n : Node
   pub steps : StepsTo g m n
   pub unvoted : IsUnvoted g n
+  pub reached : Reaches g k n x
 
-pub reaches_back : (g : Graph) (x : Node) (k : ℕ) (n : Node) → reaches g x (suc k) n ≡ true → LastStep g x k n
-unfolding reaches
-reaches_back g x k n h =
-    let q = and_parts (is_unvoted g n) (any_below (node_count g) (λ v. steps_to g (node_of g v) n && reaches g x k (node_of g v))) h in
-    let r = any_found (node_count g) (λ v. steps_to g (node_of g v) n && reaches g x k (node_of g v)) q.1 in
-    let p = and_parts (steps_to g (node_of g r.v) n) (reaches g x k (node_of g r.v)) r.passes in
-    record { m = node_of g r.v; reached = p.1; steps = steps_to_parts g (node_of g r.v) n p.0; unvoted = is_unvoted_parts g n q.0 }
+pub first_step : (g : Graph) (k : ℕ) (m x : Node) → Reaches g (suc k) m x → FirstStep g k m x
+first_step g zero m x r = record { n = x; steps = subst (λ (y : Node). StepsTo g y x) r.1 r.2; unvoted = r.3; reached = refl }
+first_step g (suc k) m x r =
+    let f = first_step g k m r.0 r.1 in
+    record { n = f.n; steps = f.steps; unvoted = f.unvoted; reached = (r.0, f.reached, r.2, r.3) }
 
-pub reaches_step : (g : Graph) (x : Node) (k : ℕ) (m n : Node) → reaches g x k m ≡ true → IsUnvoted g m → StepsTo g m n → IsUnvoted g n → reaches g x (suc k) n ≡ true
-unfolding reaches
-reaches_step g x k m n h um s u =
-    let e = node_of-number g m um.cell_in in
-    and_from (is_unvoted g n) _ (is_unvoted_from g n u)
-    (any_of (node_count g) (λ v. steps_to g (node_of g v) n && reaches g x k (node_of g v)) (number g m) (number-lt g m um)
-    (and_from (steps_to g (node_of g (number g m)) n) (reaches g x k (node_of g (number g m)))
-    (ap (λ (y : Node). steps_to g y n) e ∙ steps_to_from g m n s)
-    (ap (reaches g x k) e ∙ h)))
-
-pub reaches_at : (g : Graph) (x : Node) (i j : ℕ) (n : Node) → i ≡ j → reaches g x i n ≡ true → reaches g x j n ≡ true
-reaches_at g x i j n e h = ap (λ (y : ℕ). reaches g x y n) (sym e) ∙ h
-
-level_at_same : (g : Graph) (i j : ℕ) (n : Node) → i ≡ j → level g i n ≡ true → level g j n ≡ true
-level_at_same g i j n e h = ap (λ (y : ℕ). level g y n) (sym e) ∙ h
+-- what more steps reach, fewer do
+pub reaches_fewer : (g : Graph) (k d : ℕ) (m x : Node) → Reaches g (d + k) m x → (n : Node) × Reaches g k m n
+reaches_fewer g k zero m x r = (x, subst (λ (i : ℕ). Reaches g i m x) (let e : 0 + k ≡ k = omega arith in e) r)
+reaches_fewer g k (suc d) m x r =
+    let s : Reaches g (suc (d + k)) m x = subst (λ (i : ℕ). Reaches g i m x) (let e : suc d + k ≡ suc (d + k) = omega arith in e) r in
+    reaches_fewer g k d m s.0 s.1
 
 -- what a node of a level reaches is of higher levels
-reached_level : (g : Graph) (x : Node) (j k : ℕ) (n : Node) → level g j x ≡ true → reaches g x k n ≡ true → level g (k + j) n ≡ true
-reached_level g x j zero n l h = level_at_same g j (0 + j) n (omega arith) (ap (level g j) (reaches_zero g x n h) ∙ l)
-reached_level g x j (suc k) n l h =
-    let b = reaches_back g x k n h in
-    level_at_same g (suc (k + j)) (suc k + j) n (omega arith) (level_step g (k + j) b.m n (reached_level g x j k b.m l b.reached) b.steps b.unvoted)
+level_on : (g : Graph) (j k : ℕ) (m n : Node) → level g j m ≡ true → Reaches g k m n → level g (k + j) n ≡ true
+level_on g j zero m n l e = subst (λ (i : ℕ). level g i n ≡ true) (let e : j ≡ 0 + j = omega arith in e) (ap (level g j) e ∙ l)
+level_on g j (suc k) m n l r =
+    subst (λ (i : ℕ). level g i n ≡ true) (let e : suc (k + j) ≡ suc k + j = omega arith in e) (level_step g (k + j) r.0 n (level_on g j k m r.0 l r.1) r.2 r.3)
 
--- so that a node that is reached again is of each level
-again_level : (g : Graph) (x : Node) (k t : ℕ) → IsUnvoted g x → 0 < k → reaches g x k x ≡ true → level g t x ≡ true
-again_level g x k zero u some h = level_zero g x u
-again_level g x k (suc t) u some h =
-    let high = reached_level g x t k x (again_level g x k t u some h) h in
-    level_down g (suc t) (k - 1) x (level_at_same g (k + t) ((k - 1) + suc t) x (omega arith) high)
+-- a node of a level is reached from one that is unvoted
+pub record Source (g : Graph) (k : ℕ) (n : Node) : Type 0 where
+  pub m : Node
+  pub unvoted : IsUnvoted g m
+  pub reached : Reaches g k m n
 
-pub cycle_of_return : (g : Graph) (x : Node) → IsUnvoted g x → comes_back g x ≡ true → has_cycle g ≡ true
-cycle_of_return g x u h =
-    let f = any_found (node_count g) (λ k. reaches g x (suc k) x) h in
-    has_cycle_from g x (again_level g x (suc f.v) (node_count g) u (omega arith) f.passes)
+pub source_of : (g : Graph) (k : ℕ) (n : Node) → level g k n ≡ true → Source g k n
+source_of g zero n l = record { m = n; unvoted = level_unvoted g 0 n l; reached = refl }
+source_of g (suc k) n l =
+    let b = level_back g k n l in
+    let s = source_of g k b.m b.level in
+    record { m = s.m; unvoted = s.unvoted; reached = (b.m, s.reached, b.steps, level_unvoted g (suc k) n l) }
 
--- along a cycle
-along : (g : Graph) (x : Node) (nodes : List Node) → IsUnvotedCycle g nodes → (k a t : ℕ) → reaches g x k (at nodes a) ≡ true → a + t < length nodes → reaches g x (t + k) (at nodes (a + t)) ≡ true
-along g x nodes c k a zero h l = reaches_at g x k (0 + k) (at nodes (a + 0)) (omega arith) (ap (reaches g x k) (ap (at nodes) (add-zero a)) ∙ h)
-along g x nodes c k a (suc t) h l =
-    let before = along g x nodes c k a t h (omega arith) in
-    let e : a + suc t ≡ (a + t) + 1 = omega arith in
-    let s : StepsTo g (at nodes (a + t)) (at nodes (a + suc t)) = subst (λ (y : ℕ). StepsTo g (at nodes (a + t)) (at nodes y)) (sym e) (c.walk.steps (a + t) (omega arith)) in
-    reaches_at g x (suc (t + k)) (suc t + k) (at nodes (a + suc t)) (omega arith)
-    (reaches_step g x (t + k) (at nodes (a + t)) (at nodes (a + suc t)) before (c.walk.unvoted (a + t) (omega arith)) s (c.walk.unvoted (a + suc t) l))
+pub level_of_source : (g : Graph) (k : ℕ) (m n : Node) → IsUnvoted g m → Reaches g k m n → level g k n ≡ true
+level_of_source g k m n u r = subst (λ (i : ℕ). level g i n ≡ true) (let e : k + 0 ≡ k = omega arith in e) (level_on g 0 k m n (level_zero g m u) r)
 
--- a cycle has no more nodes than the graph
-cycle_short : (g : Graph) (nodes : List Node) → IsUnvotedCycle g nodes → length nodes ≤ node_count g
-cycle_short g nodes c = elim (cases_lt (node_count g) (length nodes)) [
-  | inr a ↦ a
-  | inl a ↦
-      let k = pigeonhole (node_count g) (λ i. number g (at nodes i)) (λ i l. number-lt g (at nodes i) (c.walk.unvoted i (omega arith))) in
-      let within : k.j ≤ node_count g = k.within in
-      let apart : k.i < k.j = k.apart in
-      absurd (c.distinct k.i k.j apart (omega arith)
-      (number-injective g (at nodes k.i) (at nodes k.j) (c.walk.unvoted k.i (omega arith)).cell_in (c.walk.unvoted k.j (omega arith)).cell_in k.same))
+-- a node to which steps lead back is of each level
+again_level : (g : Graph) (x : Node) → IsUnvoted g x → ComesBack g x → (t : ℕ) → level g t x ≡ true
+again_level g x u c zero = level_zero g x u
+again_level g x u c (suc t) =
+    let some : 0 < c.0 = c.1 in
+    level_down g (suc t) (c.0 - 1) x
+    (subst (λ (i : ℕ). level g i x ≡ true) (let e : c.0 + t ≡ (c.0 - 1) + suc t = omega arith in e) (level_on g t c.0 x x (again_level g x u c t) c.2))
+
+pub back_is_on_walk : (g : Graph) (x : Node) (steps : ℕ) → IsUnvoted g x → ComesBack g x → IsOnWalk g steps x
+back_is_on_walk g x steps u c = record { these = steps; those = 0; all = omega arith; ends = again_level g x u c steps; last = x; leads = refl }
+
+-- the longest walk on says how long a walk to the node must be
+pub far_is_on_walk : (g : Graph) (x : Node) (steps on : ℕ) → IsFarthest g x steps on → level g (steps - on) x ≡ true → IsOnWalk g steps x
+far_is_on_walk g x steps on f l =
+    let within : on ≤ steps = f.within in
+    record { these = steps - on; those = on; all = omega arith; ends = l; last = f.reached.0; leads = f.reached.1 }
+
+pub on_walk_is_far : (g : Graph) (x : Node) (steps on : ℕ) → IsFarthest g x steps on → IsOnWalk g steps x → level g (steps - on) x ≡ true
+on_walk_is_far g x steps on f w =
+    let within : on ≤ steps = f.within in
+    let all : w.these + w.those ≡ steps = w.all in
+    elim (cases_lt on w.those) [
+      | inl more ↦
+          let r = reaches_fewer g (suc on) (w.those - suc on) x w.last (subst (λ (i : ℕ). Reaches g i x w.last) (let e : w.those ≡ (w.those - suc on) + suc on = omega arith in e) w.leads) in
+          absurd (f.ends (omega arith) r.0 r.1)
+      | inr enough ↦
+          level_down g (steps - on) (on - w.those) x
+          (subst (λ (i : ℕ). level g i x ≡ true) (let e : w.these ≡ (on - w.those) + (steps - on) = omega arith in e) w.ends)
+    ]
+
+-- where the other graph leaves but one node more unvoted, a walk of its own passes through that node
+abbrev pub HasOtherVotes : Graph → Graph → Node → Type 0
+HasOtherVotes g h x = (n : Node) → n ≢ x → h.votes n.slot n.cell ≡ false → g.votes n.slot n.cell ≡ false
+
+-- a walk to the node that passes through the other
+record Through (g : Graph) (x : Node) (k : ℕ) (n : Node) : Type 0 where
+  these : ℕ
+  those : ℕ
+  all : these + those ≡ k
+  ends : level g these x ≡ true
+  leads : Reaches g those x n
+
+through_here : (h : Graph) (x : Node) (k : ℕ) (n : Node) → level h k n ≡ true → n ≡ x → Through h x k n
+through_here h x k n l e = record { these = k; those = 0; all = omega arith; ends = ap (level h k) (sym e) ∙ l; leads = e }
+
+kept_or_through : (g h : Graph) (x : Node) → IsAlike h g → HasOtherVotes g h x → (k : ℕ) (n : Node) → level h k n ≡ true → (level g k n ≡ true) ⊎ Through h x k n
+kept_or_through g h x a others zero n l = elim (cases_Bool (eqb n.slot x.slot && eqb n.cell x.cell)) [
+  | inl is ↦ inr (through_here h x 0 n l (same_node n x is))
+  | inr is_not ↦ let u = level_unvoted h 0 n l in inl (level_zero g n (unvoted_alike h g a n u (others n (other_node n x is_not) u.unvoted)))
+]
+kept_or_through g h x a others (suc k) n l = elim (cases_Bool (eqb n.slot x.slot && eqb n.cell x.cell)) [
+  | inl is ↦ inr (through_here h x (suc k) n l (same_node n x is))
+  | inr is_not ↦
+      let u = level_unvoted h (suc k) n l in
+      let b = level_back h k n l in
+      elim (kept_or_through g h x a others k b.m b.level) [
+        | inl kept ↦ inl (level_step g k b.m n kept (steps_alike h g a b.m n (level_unvoted h k b.m b.level) u b.steps)
+            (unvoted_alike h g a n u (others n (other_node n x is_not) u.unvoted)))
+        | inr t ↦ inr (record {
+          these = t.these;
+          those = suc t.those;
+          all = let e : t.these + t.those ≡ k = t.all in omega arith;
+          ends = t.ends;
+          leads = (b.m, t.leads, b.steps, u);
+        })
+      ]
 ]
 
--- round a cycle a node is reached again
-round_again : (g : Graph) (nodes : List Node) → IsUnvotedCycle g nodes → (i : ℕ) → i < length nodes → reaches g (at nodes i) (length nodes) (at nodes i) ≡ true
-round_again g nodes c i l =
-    let x : Node = at nodes i in
-    let some : 0 < length nodes = c.some in
-    let d : ℕ = length nodes - 1 - i in
-    let e : i + d ≡ length nodes - 1 = omega arith in
-    let last : reaches g x (d + 0) (at nodes (length nodes - 1)) ≡ true =
-    ap (reaches g x (d + 0)) (ap (at nodes) (sym e)) ∙ along g x nodes c 0 i d (reaches_self g x) (omega arith) in
-    let first : reaches g x (suc (d + 0)) (at nodes 0) ≡ true =
-    reaches_step g x (d + 0) (at nodes (length nodes - 1)) (at nodes 0) last (c.walk.unvoted (length nodes - 1) (omega arith)) c.closes (c.walk.unvoted 0 some) in
-    let f : 0 + i ≡ i = omega arith in
-    reaches_at g x (i + suc (d + 0)) (length nodes) x (omega arith)
-    (ap (reaches g x (i + suc (d + 0))) (ap (at nodes) (sym f)) ∙ along g x nodes c (suc (d + 0)) 0 i first (omega arith))
+pub new_walk_is_through : (g h : Graph) (x : Node) (k : ℕ) → IsAlike h g → HasOtherVotes g h x → has_level_node g k ≡ false → has_level_node h k ≡ true → IsOnWalk h k x
+new_walk_is_through g h x k a others none some =
+    let f = any_found (node_count h) (λ v. level h k (node_of h v)) some in
+    elim (kept_or_through g h x a others k (node_of h f.v) f.passes) [
+      | inl kept ↦ absurd (both_ways (has_level_node g k) none (level_found g k (node_of h f.v) kept))
+      | inr t ↦ record { these = t.these; those = t.those; all = t.all; ends = t.ends; last = node_of h f.v; leads = t.leads }
+    ]
 
-return_of_cycle : (g : Graph) (x : Node) (nodes : List Node) → IsUnvotedCycle g nodes → (i : ℕ) → i < length nodes → at nodes i ≡ x → comes_back g x ≡ true
-return_of_cycle g x nodes c i l is =
-    let some : 0 < length nodes = c.some in
-    let short : length nodes ≤ node_count g = cycle_short g nodes c in
-    any_of (node_count g) (λ k. reaches g x (suc k) x) (length nodes - 1) (omega arith)
-    (reaches_at g x (length nodes) (suc (length nodes - 1)) x (omega arith)
-    (subst (λ (y : Node). reaches g y (length nodes) y ≡ true) is (round_again g nodes c i l)))
-
--- where the graph with one vote more has no unvoted cycle, there is one exactly where that vote's node is reached again
-pub cycle_is_return : (g h : Graph) (x : Node) → IsAlike h g → ((n : Node) → n ≢ x → h.votes n.slot n.cell ≡ false → g.votes n.slot n.cell ≡ false) → IsUnvoted h x → has_cycle g ≡ false → has_cycle h ≡ comes_back h x
-cycle_is_return g h x a others u none = both_or_none (has_cycle h) (comes_back h x)
-    (λ t.
-    let c = cycle_from h t in
-    let nodes = c.0 in
-    let here : ℕ → Bool = λ i. eqb (number h (at nodes i)) (number h x) in
-    elim (cases_Bool (any_below (length nodes) (λ i. eqb (number h (at nodes i)) (number h x)))) [
-      | inl found ↦
-          let f = any_found (length nodes) (λ i. eqb (number h (at nodes i)) (number h x)) found in
-          return_of_cycle h x nodes c.1 f.v f.below
-          (number-injective h (at nodes f.v) x (c.1.walk.unvoted f.v f.below).cell_in u.cell_in (eqb-true _ _ f.passes))
-      | inr missing ↦ absurd (both_ways (has_cycle g) none (cycle_found g nodes (cycle_alike h g a nodes
-          (λ i l. others (at nodes i)
-          (λ e. eqb-false _ _ (any_none (length nodes) (λ i. eqb (number h (at nodes i)) (number h x)) missing i l) (ap (number h) e))
-          (c.1.walk.unvoted i l).unvoted)
-          c.1)))
-    ])
-    (cycle_of_return h x u)
+pub walk_through : (h : Graph) (x : Node) (k : ℕ) → IsOnWalk h k x → has_level_node h k ≡ true
+walk_through h x k w =
+    let all : w.these + w.those ≡ k = w.all in
+    level_found h k w.last (subst (λ (i : ℕ). level h i w.last ≡ true) (let e : w.those + w.these ≡ k = omega arith in e) (level_on h w.these w.those x w.last w.ends w.leads))

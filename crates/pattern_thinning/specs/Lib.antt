@@ -1,3 +1,3 @@
-pub mod Reach
 pub mod Thinned
 pub mod Laws
+pub mod inner

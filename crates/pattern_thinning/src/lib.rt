@@ -7,6 +7,3 @@ mod reach;
 mod thinning;
 
 pub use thinning::thin;
-
-#[cfg(test)]
-mod tests;

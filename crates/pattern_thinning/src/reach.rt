@@ -1,24 +1,17 @@
-//! Whether a node is reached again through unvoted nodes.
-//! Each step leads to the next slot, so that one word has all cells that are reached.
+//! Whether an unvoted walk of so many steps passes through a node.
+//! Each step leads to the next slot, so that one word has all cells that are reached, and one all from which a node is reached.
 //! This project's own.
-ghost use Rattle.std.specs.Prelude.{◌≡◌, ◌<◌, ◌≤◌, ◌+◌, ◌*◌, ◌%◌};
+ghost use Rattle.std.specs.Prelude.{◌≡◌, ◌↔◌, ℕ, ◌+◌, ◌%◌, ◌<◌, IsTrue, MatchOption};
+ghost use Rattle.rcp_model.specs.Levels.{level};
 ghost use Rattle.rcp_model.specs.Walk.{IsUnvoted};
 ghost use Rattle.recovery_analysis.specs.Graphs.{graph_of, IsOneSize};
-ghost use Rattle.pattern_thinning.specs.Reach.{AreNext, HasCellsOnly};
-ghost use Rattle.pattern_thinning.specs.Reach as spec;
+ghost use Rattle.pattern_thinning.specs.inner.Reach.{AreThose, AreUnvotedThat, ComesBack, IsFarthest, IsOnWalk, feeds_below};
+ghost use Rattle.pattern_thinning.specs.inner.Reach as spec;
 
 use rcp_base::bits;
 use rcp_model::Node;
 use task_graph::DepRows;
 use vote_pattern::Pattern;
-
-/// How many nodes there are.
-pub fn node_count(rows: &DepRows) -> u32
-    ensures value { result ≡ rows.now.slots * rows.now.cells }
-    ensures small { result ≤ 2048 }
-{
-    rows.slots() * rows.cells()
-}
 
 // The slot after, in turn.
 fn slot_after(rows: &DepRows, slot: u32) -> u32
@@ -30,57 +23,131 @@ fn slot_after(rows: &DepRows, slot: u32) -> u32
     (slot + 1) % slots
 }
 
-// Whether the cell is unvoted in the slot, and a cell of the word feeds it there.
-fn is_next(rows: &DepRows, pattern: &Pattern, frontier: u64, slot: u32, cell: u32) -> bool
-    requires size { IsOneSize rows.now pattern.now }
-    requires frontier { HasCellsOnly (graph_of rows.now pattern.now) frontier }
+// The slot before, in turn.
+fn slot_before(rows: &DepRows, slot: u32) -> u32
+    requires { slot < rows.now.slots }
+    ensures turn { slot ≡ (result + 1) % rows.now.slots }
+    ensures within { result < rows.now.slots }
+{
+    if slot == 0 {
+        rows.slots() - 1
+    } else {
+        slot - 1
+    }
+}
+
+// Whether a cell of the word feeds the cell in the slot.
+fn is_fed(rows: &DepRows, word: u64, slot: u32, cell: u32) -> bool
     requires slot { slot < rows.now.slots }
     requires cell { cell < rows.now.cells }
-    ensures { result ≡ spec.is_next (graph_of rows.now pattern.now) frontier slot cell }
+    ensures { result ≡ spec.is_fed rows.now word slot cell }
 {
-    if pattern.has(slot, cell) {
-        return false;
-    }
-    let found = bits::first_bit(rows.word(slot, cell) & frontier);
+    let found = bits::first_bit(rows.word(slot, cell) & word);
     found.is_some()
 }
 
-// The cells that are unvoted in the slot and fed by a cell of the word, as bits.
-fn next_word(rows: &DepRows, pattern: &Pattern, frontier: u64, slot: u32) -> u64
-    requires size { IsOneSize rows.now pattern.now }
-    requires frontier { HasCellsOnly (graph_of rows.now pattern.now) frontier }
+// The cells that a cell of the word feeds in the slot, as bits.
+fn fed_word(rows: &DepRows, word: u64, slot: u32) -> u64
     requires slot { slot < rows.now.slots }
-    ensures { AreNext (graph_of rows.now pattern.now) frontier slot result }
+    ensures { AreThose rows.now.cells (spec.is_fed rows.now word slot) result }
 {
     let cells = rows.cells();
-    let mut word = 0;
+    let mut fed = 0;
     for cell in 0..cells {
-        if is_next(rows, pattern, frontier, slot, cell) {
-            word = bits::with_bit(word, cell);
+        if is_fed(rows, word, slot, cell) {
+            fed = bits::with_bit(fed, cell);
         }
     }
-    word
+    fed
 }
 
-/// Whether unvoted steps lead from the node back to it.
-pub fn comes_back(rows: &DepRows, pattern: &Pattern, node: Node) -> bool
+// The cells that feed a cell of the word in the slot, as bits.
+fn feeding_word(rows: &DepRows, word: u64, slot: u32) -> u64
+    requires slot { slot < rows.now.slots }
+    ensures { AreThose rows.now.cells (feeds_below rows.now.cells rows.now word slot) result }
+{
+    let cells = rows.cells();
+    let mut feeding = 0;
+    for cell in 0..cells {
+        if bits::has_bit(word, cell) {
+            feeding |= rows.word(slot, cell);
+        }
+    }
+    feeding
+}
+
+// The unvoted cells of the slot that a cell of the word feeds there.
+fn next_word(rows: &DepRows, pattern: &Pattern, word: u64, slot: u32) -> u64
+    requires size { IsOneSize rows.now pattern.now }
+    requires slot { slot < rows.now.slots }
+    ensures { let fed = spec.is_fed rows.now word slot in
+        AreUnvotedThat (graph_of rows.now pattern.now) slot fed result }
+{
+    pattern.unvoted(slot) & fed_word(rows, word, slot)
+}
+
+// The unvoted cells of the slot before that feed a cell of the word in the slot.
+fn previous_word(rows: &DepRows, pattern: &Pattern, word: u64, before: u32, slot: u32) -> u64
+    requires size { IsOneSize rows.now pattern.now }
+    requires before { before < rows.now.slots }
+    requires slot { slot < rows.now.slots }
+    ensures { let feeds = feeds_below rows.now.cells rows.now word slot in
+        AreUnvotedThat (graph_of rows.now pattern.now) before feeds result }
+{
+    pattern.unvoted(before) & feeding_word(rows, word, slot)
+}
+
+// How many steps a longest walk on from the node has, of those that have no more than the most; none where steps lead back to it.
+fn steps_on(rows: &DepRows, pattern: &Pattern, node: Node, most: u32) -> Option<u32>
     requires size { IsOneSize rows.now pattern.now }
     requires node { IsUnvoted (graph_of rows.now pattern.now) node }
-    ensures { result ≡ spec.comes_back (graph_of rows.now pattern.now) node }
+    ensures { let g = graph_of rows.now pattern.now in
+        MatchOption result (ComesBack g node) (IsFarthest g node most) }
 {
-    let count = node_count(rows);
     let _cells = rows.cells();
     let mut slot = node.slot;
     let mut frontier = bits::with_bit(0, node.cell);
-    for _step in 0..count {
+    for step in 0..most {
         slot = slot_after(rows, slot);
         frontier = next_word(rows, pattern, frontier, slot);
-        if frontier == 0 {
-            return false;
+        if bits::first_bit(frontier).is_none() {
+            return Some(step);
         }
         if slot == node.slot && bits::has_bit(frontier, node.cell) {
-            return true;
+            return None;
         }
     }
-    false
+    Some(most)
+}
+
+// Whether an unvoted walk of so many steps ends in the node.
+fn ends_walk(rows: &DepRows, pattern: &Pattern, node: Node, steps: u32) -> bool
+    requires size { IsOneSize rows.now pattern.now }
+    requires node { IsUnvoted (graph_of rows.now pattern.now) node }
+    ensures { result ≡ level (graph_of rows.now pattern.now) steps node }
+{
+    let _cells = rows.cells();
+    let mut slot = node.slot;
+    let mut frontier = bits::with_bit(0, node.cell);
+    for _step in 0..steps {
+        let before = slot_before(rows, slot);
+        frontier = previous_word(rows, pattern, frontier, before, slot);
+        slot = before;
+        if bits::first_bit(frontier).is_none() {
+            return false;
+        }
+    }
+    true
+}
+
+/// Whether the node is on an unvoted walk of so many steps.
+pub fn is_on_walk(rows: &DepRows, pattern: &Pattern, node: Node, steps: u32) -> bool
+    requires size { IsOneSize rows.now pattern.now }
+    requires node { IsUnvoted (graph_of rows.now pattern.now) node }
+    ensures { IsTrue result ↔ IsOnWalk (graph_of rows.now pattern.now) steps node }
+{
+    match steps_on(rows, pattern, node, steps) {
+        None => true,
+        Some(on) => ends_walk(rows, pattern, node, steps - on),
+    }
 }

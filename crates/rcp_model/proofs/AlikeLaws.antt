@@ -36,7 +36,7 @@ alike_through f g h a b =
       feeds = λ s d c p q r. b.feeds s d c (omega arith) (omega arith) (omega arith) ∙ a.feeds s d c p q r;
     }
 
-steps_alike : (g h : Graph) → IsAlike g h → (m n : Node) → IsUnvoted g m → IsUnvoted g n → StepsTo g m n → StepsTo h m n
+pub steps_alike : (g h : Graph) → IsAlike g h → (m n : Node) → IsUnvoted g m → IsUnvoted g n → StepsTo g m n → StepsTo h m n
 steps_alike g h a m n um un s = record {
   turn = s.turn ∙ ap (λ (x : ℕ). (m.slot + 1) % x) (sym a.slots);
   feeds = a.feeds n.slot m.cell n.cell un.slot_in um.cell_in un.cell_in ∙ s.feeds;
@@ -67,27 +67,9 @@ cycle_alike g h a nodes unvoted c =
 abbrev pub HasNoMoreVotes : Graph → Graph → Type 0
 HasNoMoreVotes g h = (s c : ℕ) → s < g.slots → c < g.cells → g.votes s c ≡ false → h.votes s c ≡ false
 
--- taking votes away never takes an unvoted cycle away
-pub has_still : (g h : Graph) → IsAlike g h → HasNoMoreVotes g h → has_cycle g ≡ true → has_cycle h ≡ true
-has_still g h a fewer e =
-    let c = cycle_from g e in
-    let nodes = c.0 in
-    cycle_found h nodes (cycle_alike g h a nodes (λ i l. let u = c.1.walk.unvoted i l in fewer (at nodes i).slot (at nodes i).cell u.slot_in u.cell_in u.unvoted) c.1)
-
-pub had_none : (g h : Graph) → IsAlike g h → HasNoMoreVotes g h → has_cycle h ≡ false → has_cycle g ≡ false
-had_none g h a fewer e = false_from_ne_true (has_cycle g) (λ t. both_ways (has_cycle h) e (has_still g h a fewer t))
-
 -- the votes are the same, as far as there are slots and cells
 abbrev pub HasSameVotes : Graph → Graph → Type 0
 HasSameVotes g h = (s c : ℕ) → s < g.slots → c < g.cells → h.votes s c ≡ g.votes s c
-
-pub same_cycles : (g h : Graph) → IsAlike g h → HasSameVotes g h → has_cycle g ≡ has_cycle h
-same_cycles g h a same =
-    let slots : h.slots ≡ g.slots = a.slots in
-    let cells : h.cells ≡ g.cells = a.cells in
-    both_or_none (has_cycle g) (has_cycle h)
-    (has_still g h a (λ s c p q e. same s c p q ∙ e))
-    (has_still h g (alike_turned g h a) (λ s c p q e. sym (same s c (omega arith) (omega arith)) ∙ e))
 
 -- they agree in what feeds what, and in their votes
 pub record IsSame (g h : Graph) : Type 0 where

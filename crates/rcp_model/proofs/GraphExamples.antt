@@ -1,6 +1,6 @@
 -- A graph of two slots and two cells: the first slot copies the first cell to the second, and the other leaves both alone.
 -- This project's own.
-use Rattle.std.proofs.Common.{◌≡◌, refl, None, ℕ, ◌==◌, true, false, Bool, [], ◌∷◌}
+use Rattle.std.proofs.Common.{◌≡◌, refl, None, Some, ℕ, ◌==◌, true, false, Bool, [], ◌∷◌}
 use Rattle.std.specs.Prelude.{◌&&◌, if◌then◌else◌}
 use Rattle.rcp_model.specs.declared.node.Node.{Node}
 use Rattle.rcp_model.specs.Walk.{Graph}
@@ -53,3 +53,17 @@ thinning_clears_the_first_slot = refl
 thinning_keeps_one_vote : voted_at (thinned None (voting everything)) 1 ≡ 0 ∷ []
 unfolding level thinned voted_at
 thinning_keeps_one_vote = refl
+
+-- under a limit of two, the second slot's votes of both cells stay: a walk of one node is the longest that may be left
+a_limit_keeps_more_votes : voted_at (thinned (Some 2) (voting everything)) 1 ≡ 0 ∷ 1 ∷ []
+unfolding level thinned voted_at
+a_limit_keeps_more_votes = refl
+
+the_first_slot_is_cleared_still : voted_at (thinned (Some 2) (voting everything)) 0 ≡ []
+unfolding level thinned voted_at
+the_first_slot_is_cleared_still = refl
+
+-- and what is over its limit is left as it is
+over_the_limit_nothing_is_cleared : voted_at (thinned (Some 2) (voting one_vote)) 1 ≡ 0 ∷ []
+unfolding level thinned voted_at
+over_the_limit_nothing_is_cleared = refl

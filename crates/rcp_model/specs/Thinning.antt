@@ -2,13 +2,13 @@
 -- project's own.
 use Rattle.std.specs.Prelude.{◌≡◌, ℕ, ◌-◌, ◌==◌, ◌<◌, nat_lt, zero, suc, Bool, true, not, ◌&&◌, if◌then◌else◌, List, Option, Some, None, IfSome}
 use Rattle.rcp_model.specs.declared.node.Node.{Node}
-use Rattle.rcp_model.specs.Walk.{Graph, node_count, EndsWalk, IsUnvotedCycle}
+use Rattle.rcp_model.specs.Walk.{Graph, node_count, HasNoWalk, IsUnvotedCycle}
 use Rattle.rcp_model.specs.Levels.{node_of, has_cycle, has_level_node}
 
 -- there is no unvoted cycle and, where there is a limit, no unvoted walk of as many nodes
 pub record IsGood (limit : Option ℕ) (g : Graph) : Type 0 where
   pub no_cycle : (nodes : List Node) → IsUnvotedCycle g nodes → ⊥
-  pub no_long_walk : IfSome limit (λ k. (n : Node) → EndsWalk g k n → ⊥)
+  pub no_long_walk : IfSome limit (HasNoWalk g)
 
 -- some unvoted walk has so many nodes
 abbrev pub has_walk : Graph → ℕ → Bool

@@ -1,42 +1,7 @@
-use Rattle.std.proofs.Common.{◌≡◌, ◌+◌, ℕ, suc, ap, subst, arith}
-use Rattle.rcp_model.specs.declared.node.Node.{Node}
-use Rattle.rcp_model.specs.Thinning.{thinned_at}
-use Rattle.vote_pattern.specs.Laws.{one_if}
-use Rattle.vote_pattern.specs.Votes.{AreVotesOf}
-use Rattle.recovery_analysis.specs.Graphs.{graph_of}
-use Rattle.rcp_model.proofs.ShownLaws.{none_found}
-use Rattle.pattern_thinning.proofs.AfterLemmas.{AreVotesAfter, after_none, after_more, after_all}
-use Rattle.pattern_thinning.proofs.thinning.thin.Goals.{then-try_vote, else-try_vote}
+use Rattle.std.proofs.Common.{sym, ◌∙◌}
+use Rattle.pattern_thinning.proofs.NeedLemmas.{other_is_left}
 use Rattle.pattern_thinning.proofs.thinning.thin.Goals as goal
 
-pub loop-number-init : goal.loop-number-init
-loop-number-init c = record {
-  size = record { slots = c.requires.slots; cells = c.requires.cells };
-  no_cycle = none_found (graph_of c.args.rows.now c.args.pattern.now) c.requires.no_cycle;
-  so_far = after_none c.args.rows.now c.args.pattern.now;
-  count = omega arith;
-  small = omega arith;
-}
-
-pub loop-number-preserved : goal.loop-number-preserved
-loop-number-preserved c =
-    let rows = c.args.rows.now in
-    let old = c.args.pattern.now in
-    let g = graph_of rows c.loop-number.pattern in
-    let one : suc c.loop-number.number ≡ c.loop-number.number + 1 = omega arith in
-    record {
-      size = c.try_vote.ensures.size;
-      no_cycle = c.try_vote.ensures.no_cycle;
-      so_far = subst (λ (i : ℕ). AreVotesAfter rows old i c.try_vote.new.pattern) one
-          (after_more rows old c.loop-number.pattern c.try_vote.new.pattern c.loop-number.number c.loop-number.invariant.so_far
-          (subst (λ (n : Node). AreVotesOf (thinned_at g n) c.try_vote.new.pattern) c.node_at-node.ensures.value c.try_vote.ensures.tried));
-      count = elim c.if-try_vote.branch [
-        | then-try_vote w ↦ let k = ap one_if w.if-try_vote.true in omega (arith, c.try_vote.ensures.count, k)
-        | else-try_vote w ↦ let k = ap one_if w.if-try_vote.false in omega (arith, c.try_vote.ensures.count, k)
-      ];
-      small = elim c.if-try_vote.branch [ then-try_vote w ↦ omega arith | else-try_vote w ↦ omega arith ];
-    }
-
-pub returns-clause-thinned : goal.returns-clause-thinned
-returns-clause-thinned c =
-    after_all c.args.rows.now c.args.pattern.now c.loop-number.pattern c.loop-number.number (omega arith) c.loop-number.invariant.so_far
+pub returns-else-branch-clause-thinned : goal.returns-else-branch-clause-thinned
+returns-else-branch-clause-thinned c =
+    other_is_left c.args.limit c.args.rows.now c.args.pattern.now (sym c.in_ok-is_good_pattern.ensures.good ∙ c.if-branch.false)
