@@ -1,4 +1,4 @@
--- What thinning leaves. After NASA TM-102716; the order is this project's own.
+-- What thinning leaves. After NASA TM-102716; the limit and the order are this project's own.
 use Rattle.std.specs.Prelude.{◌≡◌, ◌↔◌, ℕ, ◌<◌, Bool, true, ◌&&◌, ◌||◌, nat_lt, List, Option}
 use Rattle.rcp_model.specs.declared.node.Node.{Node}
 use Rattle.rcp_model.specs.Walk.{Graph, IsUnvotedCycle}

@@ -1,5 +1,5 @@
 //! Takes votes away until none can be spared.
-//! After NASA TM-102716; the order is this project's own.
+//! After NASA TM-102716; the limit and the order are this project's own.
 #![tactic(auto)]
 
 pub mod laws;

@@ -1,5 +1,5 @@
 //! Takes votes away until none can be spared.
-//! After NASA TM-102716; the order is this project's own.
+//! After NASA TM-102716; the limit and the order are this project's own.
 ghost use Rattle.std.specs.Prelude.{◌≡◌, ◌<◌, ◌≤◌, ◌+◌, ◌*◌, ◌/◌, ◌%◌, ◌&&◌, if◌then◌else◌, nat_lt, true, List, IfOk, IfSome, IsOk, OnOk};
 ghost use Rattle.rcp_model.specs.declared.node.Node.{Node};
 ghost use Rattle.rcp_model.specs.Thinning.{is_good, thinned_at};
