@@ -1,11 +1,8 @@
--- What is seen of the sink over a writer.
-use Rattle.std.specs.Prelude.{ℕ}
+-- What is seen of the sink over a writer. This project's own.
+use Rattle.std.specs.Prelude.{ℕ, List, Option}
+use Rattle.rcp_base.specs.States.{SinkState}
 use Rattle.rcp_cli.specs.declared.sink.StdOut.{StdOut}
 
--- the writer that it writes to
-abbrev pub writer_of : {W : Type 0} → StdOut W → W
-writer_of out = out.writer
-
--- how often it has failed
-abbrev pub faults_of : {W : Type 0} → StdOut W → ℕ
-faults_of out = out.faults
+-- what its writer tells of the bytes, and how often bytes or a flush were refused
+abbrev pub std_out_state : {W : Type 0} → (W → Option (List ℕ)) → StdOut W → SinkState
+std_out_state told out = record { written = told out.writer; faults = out.faults }

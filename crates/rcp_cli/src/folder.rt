@@ -1,6 +1,6 @@
 //! The folder that holds the system's files.
 //! This project's own.
-ghost use Rattle.std.specs.Prelude.{◌≡◌, ◌≢◌, ◌≤◌, ◌<◌, ◌+◌, [], vec_len, OnOk};
+ghost use Rattle.std.specs.Prelude.{◌≡◌, ◌≢◌, ◌≤◌, ◌<◌, ◌+◌, [], vec_len, None, OnOk};
 ghost use Rattle.std.specs.Io.KnownBytes.{Consumes, IsAtEnd};
 
 use rcp_base::{Folder, ReadError};
@@ -23,23 +23,20 @@ pub struct StdFolder<R> {
 }
 
 impl<R: Files> StdFolder<R> {
-    ghost use Rattle.rcp_cli.specs.StdFolder.{faults_of};
+    ghost use Rattle.rcp_cli.specs.StdFolder.{std_folder_state};
 
     /// The folder before its first failure.
     pub fn new(runtime: R) -> StdFolder<R>
-        ensures { faults_of result ≡ 0 }
+        ensures { std_folder_state result ≡ record { files = None; faults = 0 } }
     {
         StdFolder { runtime, faults: 0 }
     }
 }
 
 impl<R: Files> Folder for StdFolder<R> {
-    ghost use Rattle.std.specs.Prelude.{None};
-    ghost use Rattle.rcp_cli.specs.StdFolder.{faults_of};
+    ghost use Rattle.rcp_cli.specs.StdFolder.{std_folder_state};
 
-    ghost files = { λ _. None };
-
-    ghost faults = { λ folder. faults_of folder };
+    ghost state = { λ folder. std_folder_state folder };
 
     fn read(
         &mut self,
@@ -60,7 +57,7 @@ impl<R: Files> Folder for StdFolder<R> {
 }
 
 // Reads to the end, or one byte past the limit. What was taken of the reader stands in `into`,
-// unless memory was wanting.
+// unless memory ran out.
 fn read_up_to<R: Read>(reader: &mut R, limit: u64, into: &mut Vec<u8>) -> Result<(), ReadError>
     requires { into.old.items ≡ [] }
     ensures whole { OnOk result (IsAtEnd (R.remaining reader.new)) }

@@ -20,23 +20,20 @@ pub struct StdOut<W> {
 
 impl<W: Write> StdOut<W> {
     ghost use Rattle.std.specs.Prelude.{◌≡◌};
-    ghost use Rattle.rcp_cli.specs.StdOut.{writer_of, faults_of};
+    ghost use Rattle.rcp_cli.specs.StdOut.{std_out_state};
 
     /// The sink before its first failure.
     pub fn new(writer: W) -> StdOut<W>
-        ensures writer { writer_of result ≡ writer }
-        ensures faults { faults_of result ≡ 0 }
+        ensures { std_out_state W.contents result ≡ record { written = W.contents writer; faults = 0 } }
     {
         StdOut { writer, faults: 0 }
     }
 }
 
 impl<W: Write> Sink for StdOut<W> {
-    ghost use Rattle.rcp_cli.specs.StdOut.{writer_of, faults_of};
+    ghost use Rattle.rcp_cli.specs.StdOut.{std_out_state};
 
-    ghost written = { λ sink. W.contents (writer_of sink) };
-
-    ghost faults = { λ sink. faults_of sink };
+    ghost state = { λ sink. std_out_state W.contents sink };
 
     fn write_all(&mut self, bytes: &[u8]) -> Result<(), WriteError> {
         let answer = write_pieces(&mut self.writer, bytes);

@@ -1,5 +1,6 @@
 -- The lines of a vote pattern, one slot at a time.
-use Rattle.std.proofs.Common.{◌≡◌, ℕ, zero, suc, ◌+◌, ◌-◌, ◌<◌, ◌≤◌, Bool, true, false, not, cond, ◌==◌, ◌||◌, List, [], ◌∷◌, ◌++◌, length, flat_map, codes, append_assoc, refl, ap, sym, ◌∙◌, arith, inl, inr}
+use Rattle.std.proofs.lemmas.Grind.{flat_map-append}
+use Rattle.std.proofs.Common.{◌≡◌, ℕ, zero, suc, ◌+◌, ◌-◌, ◌<◌, ◌≤◌, Bool, true, false, not, cond, ◌==◌, ◌||◌, List, [], ◌∷◌, ◌++◌, length, flat_map, codes, append_assoc, append-nil, refl, ap, sym, ◌∙◌, arith, inl, inr}
 use Rattle.std.specs.List.{filter, list_any, range_with_len}
 use Rattle.std.proofs.lemmas.Bool.{cases_Bool, ne_eqb}
 use Rattle.rcp_model.specs.declared.plan.Variable.{Variable}
@@ -12,18 +13,6 @@ use Rattle.rcp_top.specs.PatternLines.{slot_line, slot_lines}
 -- the lines of so many slots from one on
 abbrev pub slots_left : List Variable → (ℕ → List ℕ) → ℕ → ℕ → List ℕ
 slots_left cells voted slot count = flat_map (λ s. slot_line cells s (voted s)) (range_with_len slot count)
-
--- the next slot's line, and the lines of those behind it
-pub slots_left_more : (cells : List Variable) (voted : ℕ → List ℕ) (slot slots : ℕ) → slot < slots
-    → slots_left cells voted slot (slots - slot) ≡ slot_line cells slot (voted slot) ++ slots_left cells voted (slot + 1) (slots - (slot + 1))
-slots_left_more cells voted slot slots below =
-    let one : slots - slot ≡ suc (slots - (slot + 1)) = omega arith in
-    ap (slots_left cells voted slot) one
-
-pub slots_left_none : (cells : List Variable) (voted : ℕ → List ℕ) (slot slots : ℕ) → slots ≤ slot → slots_left cells voted slot (slots - slot) ≡ []
-slots_left_none cells voted slot slots past =
-    let none : slots - slot ≡ 0 = omega arith in
-    ap (slots_left cells voted slot) none
 
 same_from : (cells : List Variable) (one other : ℕ → List ℕ) (slot count : ℕ) → ((s : ℕ) → slot ≤ s → s < slot + count → one s ≡ other s)
     → slots_left cells one slot count ≡ slots_left cells other slot count
@@ -87,6 +76,20 @@ all_votes_left votes slot =
     let all : votes.cells - 0 ≡ votes.cells = omega arith in
     ap (λ n. filter (is_in votes slot) (range_with_len 0 n)) all
 
--- a name behind a space, and what follows it
+-- a name after a space, and what follows it
 pub one_more_name : (line name rest : List ℕ) → ((line ++ codes " ") ++ name) ++ rest ≡ line ++ (32 ∷ (name ++ rest))
 one_more_name line name rest = append_assoc (line ++ codes " ") name rest ∙ append_assoc line (codes " ") (name ++ rest)
+
+-- the lines of one slot more
+pub slot_lines_more : (cells : List Variable) (voted : ℕ → List ℕ) (slot : ℕ) → slot_lines cells voted slot ++ slot_line cells slot (voted slot) ≡ slot_lines cells voted (slot + 1)
+slot_lines_more cells voted slot =
+    let line : ℕ → List ℕ = λ s. slot_line cells s (voted s) in
+    let one : suc slot ≡ slot + 1 = omega arith in
+    sym (ap (slot_lines cells voted) (sym one) ∙ ap (flat_map line) (range_longer 0 slot) ∙ flat_map-append line (range_with_len 0 slot) ((0 + slot) ∷ [])
+    ∙ ap (λ ls. slot_lines cells voted slot ++ ls) (append-nil (line (0 + slot)) ∙ ap line (let e : 0 + slot ≡ slot = omega arith in e)))
+  where
+    range_longer : (a n : ℕ) → range_with_len a (suc n) ≡ range_with_len a n ++ (a + n) ∷ []
+    range_longer a zero = let e : a ≡ a + 0 = omega arith in ap (λ x. x ∷ []) e
+    range_longer a (suc n) =
+        let e : a + 1 + n ≡ a + suc n = omega arith in
+        ap (λ xs. a ∷ xs) (range_longer (a + 1) n ∙ ap (λ x. range_with_len (a + 1) n ++ x ∷ []) e)

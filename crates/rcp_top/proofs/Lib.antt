@@ -1,11 +1,11 @@
 mod FrameLemmas
-mod HistoryLemmas
+pub mod HistoryLaws
 mod LineLemmas
+mod LineExamples
 mod ThinLemmas
-mod PatternLemmas
-mod VoteLemmas
 mod CheckLemmas
+mod JudgeLemmas
 mod EndingLemmas
-mod SeenLemmas
-mod DecideLemmas
-mod FinishLemmas
+mod ReadingLaws
+mod LawLemmas
+mod PatternLemmas

@@ -1,8 +1,12 @@
-pub mod Forms
+pub mod Reading
+pub mod Finds
+pub mod Stops
+pub mod Read
 pub mod Lines
 pub mod PatternLines
-pub mod RunText
+pub mod Check
+pub mod Thin
+pub mod Ideal
+pub mod Forms
 pub mod Outcome
-pub mod Ending
-pub mod Seen
 pub mod Laws

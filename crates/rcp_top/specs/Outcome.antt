@@ -1,28 +1,19 @@
--- What a call is to answer and to write, over the words and the files.
-use Rattle.std.specs.Prelude.{ℕ, ◌-◌, List, Option, Some, None, Result, Ok, Err, if◌then◌else◌}
-use Rattle.rcp_base.specs.Files.{Files}
-use Rattle.rcp_model.specs.declared.node.Node.{Node}
-use Rattle.rcp_model.specs.declared.plan.PlanParts.{PlanParts}
-use Rattle.rcp_model.specs.FrameRows.{History}
-use Rattle.rcp_model.specs.Levels.{has_cycle}
-use Rattle.rcp_model.specs.PlanGraph.{graph_of_plan, voted_count}
-use Rattle.rcp_model.specs.Shown.{recovery_length, witness_walk, witness_cycle}
-use Rattle.rcp_model.specs.Thinning.{thinned}
-use Rattle.rcp_model.specs.Walk.{Graph}
-use Rattle.task_file.specs.declared.fault.FileFault.{FileFault}
-use Rattle.task_file.specs.Verdict.{Verdict}
-use Rattle.task_file.specs.TaskFile.{task_file_verdict}
-use Rattle.fault_journal.specs.declared.fault.JournalFault.{JournalFault}
-use Rattle.fault_journal.specs.History.{journal_verdict}
-use Rattle.fault_journal.specs.Telling.{history_in}
-use Rattle.rcp_top.specs.declared.answer.Answer.{Answer}
-use Rattle.rcp_top.specs.declared.answer.Answer.TheVariants as answer
+-- What a call is to answer and to write, over the words and the files, and how it may end. This project's own.
+use Rattle.std.specs.Prelude.{◌≡◌, ◌⊎◌, ℕ, List, [], ◌∷◌, ⊤, Contains, Option, None, Some, Result, Ok, Err}
+use Rattle.std.specs.Io.KnownBytes.{Appends}
+use Rattle.rcp_base.specs.declared.sink.WriteError.{WriteError}
+use Rattle.rcp_base.specs.declared.sink.WriteError.TheVariants as write
+use Rattle.rcp_base.specs.Files.{Files, IfTold, Rises}
+use Rattle.rcp_base.specs.States.{FolderState, SinkState, HasFailed, IsUnread}
+use Rattle.rcp_base.specs.Writing.{AppendsFront}
 use Rattle.rcp_top.specs.declared.status.Status.{Status}
 use Rattle.rcp_top.specs.declared.status.Status.TheVariants as status
-use Rattle.rcp_top.specs.Forms.{Form, Wanted, form_of}
-use Rattle.rcp_top.specs.PatternLines.{pattern_refused_line, check_text, thin_text}
+use Rattle.rcp_top.specs.declared.stop.Refusal.{Refusal}
+use Rattle.rcp_top.specs.declared.stop.Refusal.TheVariants as refusal
+use Rattle.rcp_top.specs.Forms.{Form, form_of, work_of}
 use Rattle.rcp_top.specs.Lines.{unreadable_line, usage_line, task_refused_line, journal_refused_line}
-use Rattle.rcp_top.specs.RunText.{ideal_text, sensors_in}
+use Rattle.rcp_top.specs.PatternLines.{pattern_refused_line}
+use Rattle.rcp_top.specs.Reading.{Reading, End, end_over, names_read}
 
 -- a status and a text
 pub record Outcome : Type 0 where
@@ -33,91 +24,62 @@ pub record Outcome : Type 0 where
 abbrev pub usage : Outcome
 usage = record { status = status.Usage; text = usage_line }
 
--- the task file has this fault
-abbrev pub task_refused : FileFault → Outcome
-task_refused fault = record { status = status.TaskRefused; text = task_refused_line fault }
-
--- the journal has this fault
-abbrev pub journal_refused : JournalFault → Outcome
-journal_refused fault = record { status = status.JournalRefused; text = journal_refused_line fault }
-
 -- no file was read under this word
 abbrev pub unreadable : List ℕ → Outcome
 unreadable word = record { status = status.ReadFault; text = unreadable_line word }
 
--- a run of the single processor over these frames
-abbrev pub ideal_run : PlanParts → History → Outcome
-ideal_run plan history = record { status = status.Done; text = ideal_text plan (sensors_in history) }
+-- this is refused
+abbrev pub refused : Refusal → Outcome
+refused (refusal.TaskFile fault) = record { status = status.TaskRefused; text = task_refused_line fault }
+refused (refusal.Pattern plan cycle) =
+    record { status = status.PatternRefused; text = pattern_refused_line plan.cells cycle }
+refused (refusal.Journal fault) = record { status = status.JournalRefused; text = journal_refused_line fault }
 
--- the outcome by what the journal gives: the rows of all frames, or a fault
-abbrev pub of_history : PlanParts → Result History JournalFault → Outcome
-of_history plan (Ok history) = ideal_run plan history
-of_history plan (Err fault) = journal_refused fault
-
--- the outcome by what is held under the journal's word
-abbrev pub of_journal : PlanParts → List ℕ → Option (List ℕ) → Outcome
-of_journal plan word None = unreadable word
-of_journal plan word (Some bytes) = of_history plan (journal_verdict plan bytes)
-
--- a pattern with this unvoted cycle
-abbrev pub pattern_refused : PlanParts → List Node → Outcome
-pattern_refused plan nodes = record { status = status.PatternRefused; text = pattern_refused_line plan.cells nodes }
-
--- an analysis with this recovery length and walk
-abbrev pub checked : PlanParts → ℕ → List Node → Outcome
-checked plan length walk = record { status = status.Done; text = check_text plan length walk }
-
--- a thinned pattern with this recovery length and walk, for which so many votes were spared
-abbrev pub thinned_out : PlanParts → ℕ → ℕ → List Node → Outcome
-thinned_out plan spared length walk = record { status = status.Done; text = thin_text plan spared length walk }
-
--- how many votes thinning spares
-abbrev pub spared_count : Graph → ℕ
-spared_count g = voted_count g - voted_count (thinned g)
-
--- the thinned pattern of a plan, with its recovery length and walk
-abbrev pub thinned_plan : PlanParts → Outcome
-thinned_plan plan =
-    let g = graph_of_plan plan in
-    thinned_out plan (spared_count g) (recovery_length (thinned g)) (witness_walk (thinned g))
-
--- the outcome of a plan whose pattern has no unvoted cycle, over these files
-abbrev pub of_good_plan : PlanParts → Wanted → Files → Outcome
-of_good_plan plan Wanted.check files = checked plan (recovery_length (graph_of_plan plan)) (witness_walk (graph_of_plan plan))
-of_good_plan plan Wanted.thin files = thinned_plan plan
-of_good_plan plan (Wanted.ideal journal) files = of_journal plan journal (files journal)
-
--- the outcome of a plan: its pattern is refused exactly where it has an unvoted cycle
-abbrev pub of_plan : PlanParts → Wanted → Files → Outcome
-of_plan plan wanted files =
-    if has_cycle (graph_of_plan plan) then pattern_refused plan (witness_cycle (graph_of_plan plan)) else of_good_plan plan wanted files
-
--- the outcome by what the task file gives: the parts of a plan, or a fault
-abbrev pub of_task_file : Verdict PlanParts → Wanted → Files → Outcome
-of_task_file (Ok plan) wanted files = of_plan plan wanted files
-of_task_file (Err fault) wanted files = task_refused fault
-
--- the outcome by what is held under the word of the task file
-abbrev pub of_file : List ℕ → Option (List ℕ) → Wanted → Files → Outcome
-of_file file None wanted files = unreadable file
-of_file file (Some bytes) wanted files = of_task_file (task_file_verdict bytes) wanted files
-
--- the outcome by the form of the words, over these files
-abbrev pub of_form : Option Form → Files → Outcome
-of_form (Some form) files = of_file form.file (files form.file) form.wanted files
-of_form None files = usage
+-- what is due by the end of what was read
+abbrev pub outcome_at : End (List ℕ) → Outcome
+outcome_at (End.gave (Ok text)) = record { status = status.Done; text = text }
+outcome_at (End.gave (Err why)) = refused why
+outcome_at (End.unread word) = unreadable word
 
 -- what a call with these words is to answer and to write, over these files
-abbrev pub outcome_of : List (List ℕ) → Files → Outcome
-outcome_of words files = of_form (form_of words) files
+abbrev pub outcome_by : Option Form → Files → Outcome
+outcome_by None files = usage
+outcome_by (Some form) files = outcome_at (end_over files (work_of form))
 
--- the outcome that an answer stands for
-abbrev pub outcome_of_answer : Answer → Outcome
-outcome_of_answer answer.Usage = usage
-outcome_of_answer (answer.Unreadable word) = unreadable word.now
-outcome_of_answer (answer.TaskRefused fault) = task_refused fault
-outcome_of_answer (answer.PatternRefused plan cycle) = pattern_refused plan cycle
-outcome_of_answer (answer.JournalRefused fault) = journal_refused fault
-outcome_of_answer (answer.Check plan pattern length walk) = checked plan length walk
-outcome_of_answer (answer.Thin plan pattern spared length walk) = thinned_out plan spared length walk
-outcome_of_answer (answer.Ideal plan journal) = ideal_run plan (history_in plan journal)
+-- the same by the words
+abbrev pub outcome_of : List (List ℕ) → Files → Outcome
+outcome_of words files = outcome_by (form_of words) files
+
+-- the words that name the files that it reads for it, in turn
+abbrev pub words_read_by : Option Form → Files → List (List ℕ)
+words_read_by None files = []
+words_read_by (Some form) files = names_read files (work_of form)
+
+-- the same by the words
+abbrev pub words_read : List (List ℕ) → Files → List (List ℕ)
+words_read words files = words_read_by (form_of words) files
+
+-- a call whose outcome is due ends with this status, and leaves this after what the sink had
+pub data Ends (due : Outcome) (answer : Status) (old new : SinkState) : Type 0 where
+  as_due : answer ≡ due.status → Appends old.written new.written due.text → Ends due answer old new
+  sink_failed : answer ≡ status.WriteFault → Rises old.faults new.faults → AppendsFront old.written new.written due.text
+      → Ends due answer old new
+  out_of_memory : answer ≡ status.Memory → AppendsFront old.written new.written due.text → Ends due answer old new
+
+-- a file that is to be read was not read
+pub record HasUnread (old new : FolderState) (words : List (List ℕ)) (name : List ℕ) : Type 0 where
+  pub unread : IsUnread old new name
+  pub wanted : IfTold old.files (λ files. Contains (words_read words files) name)
+
+-- a call ends as is due over the folder's files; or the folder failed, and it ends as where one of those that it reads is
+-- not there
+abbrev pub EndsOver : FolderState → FolderState → List (List ℕ) → (Outcome → Type 0) → Type 0
+EndsOver old new words ends =
+    IfTold old.files (λ files. ends (outcome_of words files)
+    ⊎ ((name : List ℕ) × HasFailed old new × Contains (words_read words files) name × ends (unreadable name)))
+
+-- the status where a text was written, or not
+abbrev pub status_after : {T : Type 0} → Status → Result T WriteError → Status
+status_after due (Ok _) = due
+status_after due (Err write.Failed) = status.WriteFault
+status_after due (Err write.Memory) = status.Memory

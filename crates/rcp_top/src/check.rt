@@ -1,24 +1,69 @@
-//! Writes the analysis of a vote pattern or of its thinned one, one line at a time.
+//! `check FILE`: the analysis of a plan's vote pattern.
 //! This project's own.
 ghost use Rattle.std.specs.Prelude.{◌≡◌, IfOk, flat_map};
+ghost use Rattle.rcp_base.specs.Adding.{Adds};
+ghost use Rattle.rcp_base.specs.States.{IsLater};
 ghost use Rattle.rcp_base.specs.Writing.{Writes};
 ghost use Rattle.rcp_model.specs.PlanGraph.{graph_of_plan};
-ghost use Rattle.rcp_model.specs.Thinning.{thinned};
-ghost use Rattle.rcp_model.specs.Walk.{Graph};
-ghost use Rattle.vote_pattern.specs.Votes.{AreVotesOf, votes_at};
-ghost use Rattle.rcp_top.specs.PatternLines as spec;
+ghost use Rattle.vote_pattern.specs.Votes.{AreVotesOf};
+ghost use Rattle.rcp_top.specs.Finds.{Finds};
+ghost use Rattle.rcp_top.specs.Check as spec;
+ghost use Rattle.rcp_top.specs.Check.{ShowsCheck, check_of};
 
-use crate::pattern_lines::{
-    recovery_line, slot_line, spared_line, task_line, votes_line, walk_line,
-};
-use crate::send::send;
-use rcp_base::{List, Memory, Name, Sink, WriteError};
+use crate::judge::Judged;
+use crate::lines::put;
+use crate::pattern_text::{write_pattern, write_recovery};
+use crate::read::read_plan_at;
+use crate::send::add;
+use crate::shown::Shown;
+use crate::stop::Stop;
+use rcp_base::{Folder, List, Memory, Name, Sink, WriteError};
 use rcp_model::{Node, PlanParts, Task, Variable};
 use std::alloc::Global;
+use task_lang::print_body;
 use vote_pattern::Pattern;
 
-/// Writes the tasks, the votes of a plan, and how soon they recover.
-pub fn write_check<S: Sink>(
+/// A plan with its vote pattern, and how soon that recovers.
+#[derive(Drop)]
+pub struct Check {
+    pub judged: Judged,
+    pub pattern: Pattern,
+}
+
+/// Reads the plan, and analyses its pattern.
+pub fn read_check<'a, F: Folder>(
+    alloc: Global,
+    folder: &mut F,
+    file: &'a str,
+) -> Result<Check, Stop<'a>>
+    ensures finds { Finds ShowsCheck (F.state folder.old) (F.state folder.new)
+        (check_of file.now) result }
+    ensures later { IsLater (F.state folder.old) (F.state folder.new) }
+{
+    let judged = read_plan_at(alloc, folder, file)?;
+    let pattern = Pattern::of(alloc, &judged.plan)?;
+    Ok(Check { judged, pattern })
+}
+
+impl Shown for Check {
+    ghost shows = { ShowsCheck };
+
+    fn write<S: Sink>(self, alloc: Global, out: &mut S) -> Result<(), WriteError> {
+        let judged = &self.judged;
+        write_check(
+            alloc,
+            judged.plan.parts(),
+            &self.pattern,
+            judged.length,
+            judged.walk.as_slice(),
+            out,
+        )
+    }
+}
+
+// Writes the tasks, the votes of a plan, and how soon they recover.
+#[tactic(auto, using(rcp_base::proofs::AddingLaws::adds_all), unfolding(crate::specs::Check::check_text))]
+fn write_check<S: Sink>(
     alloc: Global,
     plan: &PlanParts,
     pattern: &Pattern,
@@ -27,31 +72,13 @@ pub fn write_check<S: Sink>(
     out: &mut S,
 ) -> Result<(), WriteError>
     requires { AreVotesOf (graph_of_plan plan.now) pattern.now }
-    ensures { Writes (S.written out.old) (S.written out.new) (S.faults out.old) (S.faults out.new) result
+    ensures { Writes (S.state out.old) (S.state out.new) result
         (spec.check_text plan.now length walk.now) }
 {
-    write_tasks(alloc, plan, out)?;
-    write_pattern(alloc, plan.cells.as_slice(), pattern, out)?;
-    write_recovery(alloc, plan.cells.as_slice(), length, walk, out)
-}
-
-/// Writes the votes that are left of a plan's, how many were spared, and how soon they recover.
-pub fn write_thin<S: Sink>(
-    alloc: Global,
-    plan: &PlanParts,
-    pattern: &Pattern,
-    spared: u32,
-    length: u32,
-    walk: &[Node],
-    out: &mut S,
-) -> Result<(), WriteError>
-    requires { AreVotesOf (thinned (graph_of_plan plan.now)) pattern.now }
-    ensures { Writes (S.written out.old) (S.written out.new) (S.faults out.old) (S.faults out.new) result
-        (spec.thin_text plan.now spared length walk.now) }
-{
-    write_pattern(alloc, plan.cells.as_slice(), pattern, out)?;
-    send(out, spared_line(alloc, spared))?;
-    write_recovery(alloc, plan.cells.as_slice(), length, walk, out)
+    let cells = plan.cells.as_slice();
+    let so_far = write_tasks(alloc, plan, out, Ok(()));
+    let so_far = write_pattern(alloc, cells, pattern, out, so_far);
+    write_recovery(alloc, cells, length, walk, out, so_far)
 }
 
 // The names of sensors or cells.
@@ -66,8 +93,14 @@ fn names_of(alloc: Global, variables: &[Variable]) -> Result<List<Name>, Memory>
 }
 
 // A line for each task.
-fn write_tasks<S: Sink>(alloc: Global, plan: &PlanParts, out: &mut S) -> Result<(), WriteError>
-    ensures { Writes (S.written out.old) (S.written out.new) (S.faults out.old) (S.faults out.new) result
+#[tactic(auto, using(rcp_base::proofs::AddingLaws::adds_memory))]
+fn write_tasks<S: Sink>(
+    alloc: Global,
+    plan: &PlanParts,
+    out: &mut S,
+    so_far: Result<(), WriteError>,
+) -> Result<(), WriteError>
+    ensures { Adds (S.state out.old) (S.state out.new) so_far result
         (spec.task_lines plan.now) }
 {
     let sensors = names_of(alloc, plan.sensors.as_slice())?;
@@ -78,6 +111,7 @@ fn write_tasks<S: Sink>(alloc: Global, plan: &PlanParts, out: &mut S) -> Result<
         sensors.as_slice(),
         cells.as_slice(),
         out,
+        so_far,
     )
 }
 
@@ -87,58 +121,35 @@ fn write_task_lines<S: Sink>(
     sensors: &[Name],
     cells: &[Name],
     out: &mut S,
+    mut so_far: Result<(), WriteError>,
 ) -> Result<(), WriteError>
-    ensures { Writes (S.written out.old) (S.written out.new) (S.faults out.old) (S.faults out.new) result
+    ensures { Adds (S.state out.old) (S.state out.new) so_far result
         (flat_map (spec.task_line sensors.now cells.now) tasks.now) }
 {
     for task in tasks {
-        send(out, task_line(alloc, task, sensors, cells))?;
+        so_far = add(out, so_far, task_line(alloc, task, sensors, cells));
     }
-    Ok(())
+    so_far
 }
 
-// Writes the votes of each slot, and their number.
-fn write_pattern<S: Sink>(
+// `task NAME BODY`
+#[tactic(auto, unfolding(crate::specs::Check::task_line))]
+fn task_line(
     alloc: Global,
-    cells: &[Variable],
-    pattern: &Pattern,
-    out: &mut S,
-) -> Result<(), WriteError>
-    ensures { (g : Graph) → AreVotesOf g pattern.now
-        → Writes (S.written out.old) (S.written out.new) (S.faults out.old) (S.faults out.new) result
-        (spec.pattern_text cells.now g) }
+    task: &Task,
+    sensors: &[Name],
+    cells: &[Name],
+) -> Result<Vec<u8>, Memory>
+    ensures { IfOk result (λ line. line.items ≡ spec.task_line sensors.now cells.now task.now) }
 {
-    write_slots(alloc, cells, pattern, out)?;
-    send(out, votes_line(alloc, pattern.count()))
-}
-
-// A line for each slot.
-fn write_slots<S: Sink>(
-    alloc: Global,
-    cells: &[Variable],
-    pattern: &Pattern,
-    out: &mut S,
-) -> Result<(), WriteError>
-    ensures { Writes (S.written out.old) (S.written out.new) (S.faults out.old) (S.faults out.new) result
-        (spec.slot_lines cells.now (votes_at pattern.now) pattern.now.slots) }
-{
-    for slot in 0..pattern.slots() {
-        send(out, slot_line(alloc, cells, pattern, slot))?;
-    }
-    Ok(())
-}
-
-// Writes the recovery length and the walk beside it.
-fn write_recovery<S: Sink>(
-    alloc: Global,
-    cells: &[Variable],
-    length: u32,
-    walk: &[Node],
-    out: &mut S,
-) -> Result<(), WriteError>
-    ensures { Writes (S.written out.old) (S.written out.new) (S.faults out.old) (S.faults out.new) result
-        (spec.recovery_text cells.now length walk.now) }
-{
-    send(out, recovery_line(alloc, length))?;
-    send(out, walk_line(alloc, cells, walk))
+    let mut line = Vec::new(alloc);
+    put(&mut line, b"task ")?;
+    put(&mut line, task.name.bytes())?;
+    put(&mut line, b" ")?;
+    put(
+        &mut line,
+        print_body(alloc, task, sensors, cells)?.as_slice(),
+    )?;
+    put(&mut line, b"\n")?;
+    Ok(line)
 }

@@ -1,51 +1,36 @@
 //! The forms of words, as far as they are built.
 //! This project's own.
-ghost use Rattle.std.specs.Prelude.{◌≡◌, map, option_map, string_bytes};
+ghost use Rattle.std.specs.Prelude.{◌≡◌, option_map};
 ghost use Rattle.rcp_top.specs.Forms as spec;
 
-/// What is wanted of a plan.
+/// A form of words.
 #[derive(Clone, Copy)]
-pub enum Wanted<'a> {
-    /// The analysis of its vote pattern.
-    Check,
-    /// Its vote pattern without the votes that can be spared.
-    Thin,
-    /// The run of one faultless processor over the journal under this word.
-    Ideal(&'a str),
-}
-
-/// The word of the task file, and what is wanted of its plan.
-#[derive(Clone, Copy)]
-pub struct Form<'a> {
-    pub file: &'a str,
-    pub wanted: Wanted<'a>,
+pub enum Form<'a> {
+    Check { file: &'a str },
+    Thin { file: &'a str },
+    Ideal { file: &'a str, journal: &'a str },
 }
 
 /// The form that the words are, if they are one.
 pub fn form_of(words: &[String]) -> Option<Form<'_>>
-    ensures { option_map spec.form_in result ≡ spec.form_of (map (λ word. string_bytes word) words.now) }
+    ensures { option_map spec.form_in result ≡ spec.form_of (spec.bytes_of_words words.now) }
 {
     match words {
         [word, file] => {
+            let file = file.as_str();
             if word.as_str() == "check" {
-                Some(Form {
-                    file: file.as_str(),
-                    wanted: Wanted::Check,
-                })
+                Some(Form::Check { file })
             } else if word.as_str() == "thin" {
-                Some(Form {
-                    file: file.as_str(),
-                    wanted: Wanted::Thin,
-                })
+                Some(Form::Thin { file })
             } else {
                 None
             }
         }
         [word, file, journal] => {
             if word.as_str() == "ideal" {
-                Some(Form {
+                Some(Form::Ideal {
                     file: file.as_str(),
-                    wanted: Wanted::Ideal(journal.as_str()),
+                    journal: journal.as_str(),
                 })
             } else {
                 None

@@ -1,29 +1,71 @@
-//! Writes the run of one faultless processor, one line at a time.
+//! `ideal FILE JOURNAL`: the run of one faultless processor.
 //! After NASA TM-102716.
 ghost use Rattle.std.specs.Prelude.{◌≡◌, ◌^◌, ◌<◌, ℕ, ℤ, List, [], ◌∷◌, length, slice_index_or, IfOk};
+ghost use Rattle.rcp_base.specs.Adding.{Adds};
+ghost use Rattle.rcp_base.specs.States.{IsLater};
 ghost use Rattle.rcp_base.specs.Writing.{Writes};
 ghost use Rattle.fault_journal.specs.Telling.{IsJournalOf, history_in};
 ghost use Rattle.layer_stack.specs.Inputs.{IsHistoryOf};
-ghost use Rattle.rcp_model.specs.FrameRows.{History, AreRowsOf, no_rows};
-ghost use Rattle.rcp_model.specs.Uniprocessor as uniprocessor;
+ghost use Rattle.rcp_model.specs.History.{History};
+ghost use Rattle.rcp_model.specs.FrameLimits.{IsFrameOf};
+ghost use Rattle.rcp_model.specs.FrameRows.{no_rows};
+ghost use Rattle.rcp_model.specs.Uniprocessor.{ideal_command, initial_values};
 ghost use Rattle.rcp_model.specs.declared.plan.ActuatorRow.{ActuatorRow};
 ghost use Rattle.rcp_model.specs.declared.plan.PlanParts.{PlanParts};
 ghost use Rattle.uniproc_layer.specs.Uni.{StandsAfter};
-ghost use Rattle.rcp_top.specs.RunText as spec;
+ghost use Rattle.rcp_top.specs.Finds.{Finds};
+ghost use Rattle.rcp_top.specs.Ideal as spec;
+ghost use Rattle.rcp_top.specs.Ideal.{ShowsIdeal, ideal_of};
 
 use crate::lines::{end_line, frame_line, ideal_line, vote_line};
-use crate::send::send;
+use crate::read::{read_journal_at, read_plan_at};
+use crate::send::add;
+use crate::shown::Shown;
+use crate::stop::Stop;
 use fault_journal::Journal;
 use layer_stack::{FrameIn, Inputs};
-use rcp_base::{Memory, Sink, WriteError};
+use rcp_base::{Folder, Sink, WriteError};
 use rcp_model::{Plan, PlanParts};
 use std::alloc::Global;
 use uniproc_layer::Uni;
 
-// The command of the actuator with this number, behind a frame.
+/// A plan, and a journal of it before its first frame.
+#[derive(Drop)]
+pub struct Ideal {
+    pub plan: Plan,
+    pub journal: Journal,
+}
+
+/// Reads the plan and the journal.
+pub fn read_ideal<'a, F: Folder>(
+    alloc: Global,
+    folder: &mut F,
+    file: &'a str,
+    journal: &'a str,
+) -> Result<Ideal, Stop<'a>>
+    ensures finds { Finds ShowsIdeal (F.state folder.old) (F.state folder.new)
+        (ideal_of file.now journal.now) result }
+    ensures later { IsLater (F.state folder.old) (F.state folder.new) }
+{
+    let plan = read_plan_at(alloc, folder, file)?.plan;
+    let journal = read_journal_at(alloc, folder, &plan, journal)?;
+    Ok(Ideal { plan, journal })
+}
+
+impl Shown for Ideal {
+    ghost shows = { ShowsIdeal };
+
+    fn write<S: Sink>(self, alloc: Global, out: &mut S) -> Result<(), WriteError> {
+        let mut journal = self.journal;
+        write_ideal(alloc, &self.plan, &mut journal, out)
+    }
+}
+
+// The command of the actuator with this number, after a frame.
 fn command_of(uni: &Uni, number: u32) -> i64
-    ensures { (plan : PlanParts) (sensors : List ℤ) (past : List (List ℤ)) (d : ActuatorRow) → StandsAfter plan (sensors ∷ past) uni.now
-        → number < length plan.actuators → result ≡ uniprocessor.ideal_command plan (slice_index_or plan.actuators number d) sensors past }
+    ensures { (plan : PlanParts) (sensors : List ℤ) (past : List (List ℤ)) (d : ActuatorRow)
+        → StandsAfter plan (sensors ∷ past) uni.now → number < length plan.actuators
+        → result ≡ ideal_command plan (slice_index_or plan.actuators number d) sensors past }
 {
     uni.command(number).unwrap_or(0)
 }
@@ -33,37 +75,46 @@ fn write_votes<S: Sink>(
     plan: &PlanParts,
     uni: &Uni,
     out: &mut S,
+    mut so_far: Result<(), WriteError>,
 ) -> Result<(), WriteError>
     requires { length plan.now.actuators < 2 ^ 32 }
-    ensures { (sensors : List ℤ) (past : List (List ℤ)) → StandsAfter plan.now (sensors ∷ past) uni.now
-        → Writes (S.written out.old) (S.written out.new) (S.faults out.old) (S.faults out.new) result
-        (spec.vote_lines plan.now.actuators (λ actuator. uniprocessor.ideal_command plan.now actuator sensors past)) }
+    ensures { (sensors : List ℤ) (past : List (List ℤ))
+        → StandsAfter plan.now (sensors ∷ past) uni.now
+        → Adds (S.state out.old) (S.state out.new) so_far result
+        (spec.vote_lines plan.now.actuators
+        (λ actuator. ideal_command plan.now actuator sensors past)) }
 {
     let actuators = plan.actuators.as_slice();
     for number in 0..actuators.len() {
         let actuator = &actuators[number];
         let value = command_of(uni, number as u32);
-        send(out, vote_line(alloc, &actuator.name, value))?;
+        so_far = add(out, so_far, vote_line(alloc, &actuator.name, value));
     }
-    Ok(())
+    so_far
 }
 
-// The lines of frame t, behind which the processor stands.
+// The lines of frame t, after which the processor stands.
 fn write_frame<S: Sink>(
     alloc: Global,
     plan: &PlanParts,
     uni: &Uni,
     t: u32,
     out: &mut S,
+    so_far: Result<(), WriteError>,
 ) -> Result<(), WriteError>
     requires { length plan.now.actuators < 2 ^ 32 }
-    ensures { (sensors : List ℤ) (past : List (List ℤ)) → StandsAfter plan.now (sensors ∷ past) uni.now
-        → Writes (S.written out.old) (S.written out.new) (S.faults out.old) (S.faults out.new) result
-        (spec.frame_text t plan.now.actuators (λ actuator. uniprocessor.ideal_command plan.now actuator sensors past) (uniprocessor.ideal_state plan.now (sensors ∷ past))) }
+    ensures { (sensors : List ℤ) (past : List (List ℤ))
+        → StandsAfter plan.now (sensors ∷ past) uni.now
+        → Adds (S.state out.old) (S.state out.new) so_far result
+        (spec.next_frame_text plan.now sensors t past) }
 {
-    send(out, frame_line(alloc, t))?;
-    write_votes(alloc, plan, uni, out)?;
-    send(out, ideal_line(alloc, uni.slot() as u64, uni.cells()))
+    let so_far = add(out, so_far, frame_line(alloc, t));
+    let so_far = write_votes(alloc, plan, uni, out, so_far);
+    add(
+        out,
+        so_far,
+        ideal_line(alloc, uni.slot() as u64, uni.cells()),
+    )
 }
 
 // Runs all frames of the inputs, and writes their lines and the end line.
@@ -77,21 +128,27 @@ fn run_frames<I: Inputs, S: Sink>(
 ) -> Result<(), WriteError>
     requires few { length plan.now.actuators < 2 ^ 32 }
     requires start { StandsAfter plan.now [] uni.old }
-    requires inputs { (history : History) × I.tells inputs.old plan.now history × IsHistoryOf plan.now history }
+    requires inputs { (history : History)
+        × I.tells inputs.old plan.now history × IsHistoryOf plan.now history }
     requires first { I.done inputs.old ≡ 0 }
-    requires input { input.old ≡ no_rows plan.now (uniprocessor.initial_values plan.now.sensors) }
-    requires of_plan { AreRowsOf plan.now input.old }
-    ensures { (history : History) → I.tells inputs.old plan.now history → IsHistoryOf plan.now history
-        → Writes (S.written out.old) (S.written out.new) (S.faults out.old) (S.faults out.new) result
-        (spec.ideal_text plan.now (spec.sensors_in history)) }
+    requires input { input.old ≡ no_rows plan.now (initial_values plan.now.sensors) }
+    requires of_plan { IsFrameOf plan.now input.old }
+    ensures { (history : History)
+        → I.tells inputs.old plan.now history → IsHistoryOf plan.now history
+        → Writes (S.state out.old) (S.state out.new) result
+        (spec.ideal_text plan.now (spec.sensors_of_history history)) }
 {
     let frames = inputs.frames();
+    let mut so_far = Ok(());
     for t in 0..frames {
         inputs.fill(input);
         uni.frame(input.sensors());
-        write_frame(alloc, plan, uni, t, out)?;
+        so_far = write_frame(alloc, plan, uni, t, out, so_far);
+        if so_far.is_err() {
+            return so_far;
+        }
     }
-    send(out, end_line(alloc, frames))
+    add(out, so_far, end_line(alloc, frames))
 }
 
 // Runs all frames of a journal by a processor before its first frame.
@@ -104,23 +161,23 @@ fn run_journal<S: Sink>(
 ) -> Result<(), WriteError>
     requires start { StandsAfter plan.now [] uni.old }
     requires journal { IsJournalOf plan.now journal.old }
-    ensures { Writes (S.written out.old) (S.written out.new) (S.faults out.old) (S.faults out.new) result
-        (spec.ideal_text plan.now (spec.sensors_in (history_in plan.now journal.old))) }
+    ensures { Writes (S.state out.old) (S.state out.new) result
+        (spec.ideal_text plan.now (spec.sensors_of_history (history_in plan.now journal.old))) }
 {
     let mut input = FrameIn::new(alloc, plan)?;
     run_frames(alloc, plan.parts(), uni, journal, &mut input, out)
 }
 
-/// Writes the text of the single processor over the frames of a journal.
-pub fn write_ideal<S: Sink>(
+// Writes the text of the single processor over the frames of a journal.
+fn write_ideal<S: Sink>(
     alloc: Global,
     plan: &Plan,
     journal: &mut Journal,
     out: &mut S,
 ) -> Result<(), WriteError>
     requires { IsJournalOf plan.now journal.old }
-    ensures { Writes (S.written out.old) (S.written out.new) (S.faults out.old) (S.faults out.new) result
-        (spec.ideal_text plan.now (spec.sensors_in (history_in plan.now journal.old))) }
+    ensures { Writes (S.state out.old) (S.state out.new) result
+        (spec.ideal_text plan.now (spec.sensors_of_history (history_in plan.now journal.old))) }
 {
     let mut uni = Uni::new(alloc, plan)?;
     run_journal(alloc, plan, &mut uni, journal, out)

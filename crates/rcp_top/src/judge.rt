@@ -1,12 +1,9 @@
-//! Judges the vote pattern of a plan, and thins it.
+//! Judges the vote pattern of a plan.
 //! This project's own.
-ghost use Rattle.std.specs.Prelude.{◌≡◌, false, IfOk};
-ghost use Rattle.rcp_model.specs.Levels.{has_cycle};
+ghost use Rattle.std.specs.Prelude.{◌≡◌, IfOk};
 ghost use Rattle.rcp_model.specs.PlanGraph.{graph_of_plan};
 ghost use Rattle.recovery_analysis.specs.Verdict.{verdict_of};
-ghost use Rattle.rcp_top.specs.Seen.{IsThinned};
 
-use pattern_thinning::thin;
 use rcp_base::{List, Memory};
 use rcp_model::{Node, Plan};
 use recovery_analysis::{Verdict, analyse};
@@ -23,30 +20,10 @@ pub fn judge(alloc: Global, plan: &Plan) -> Result<Verdict, Memory>
     analyse(alloc, &rows, &pattern)
 }
 
-/// A vote pattern without the votes that could be spared, how many they were, and how soon it recovers.
+/// A plan whose pattern has no unvoted cycle, and how soon it recovers.
 #[derive(Drop)]
-pub struct Thinned {
-    pub pattern: Pattern,
-    pub spared: u32,
+pub struct Judged {
+    pub plan: Plan,
     pub length: u32,
     pub walk: List<Node>,
-}
-
-/// The thinned pattern of a plan whose pattern has no unvoted cycle.
-pub fn thinned_pattern(alloc: Global, plan: &Plan) -> Result<Thinned, Memory>
-    requires { has_cycle (graph_of_plan plan.now) ≡ false }
-    ensures { IfOk result (IsThinned plan.now) }
-{
-    let rows = DepRows::build(alloc, plan)?;
-    let mut pattern = Pattern::of(alloc, plan)?;
-    let spared = thin(alloc, &rows, &mut pattern)?;
-    match analyse(alloc, &rows, &pattern)? {
-        Verdict::Recovers { length, walk } => Ok(Thinned {
-            pattern,
-            spared,
-            length,
-            walk,
-        }),
-        Verdict::Cycle { .. } => unreachable!(),
-    }
 }

@@ -1,4 +1,4 @@
-//! What follows from the clause `ends` of the top call, for all calls, and of the outcome that it speaks of.
+//! What follows from the clause `ends` of the top call, for all calls.
 //! This project's own.
 ghost use Rattle.rcp_top.specs.Laws.{AnalysesAreRight, ARunThatCanFinishDoes, NoFailedReadLeavesNoChoice, PatternsAreRefusedAtCycles};
 
@@ -7,7 +7,7 @@ pub fn no_failed_read_leaves_no_choice()
     ensures { NoFailedReadLeavesNoChoice }
 {}
 
-/// Where neither folder nor sink failed, the status and the whole text are as is due, or memory was wanting.
+/// Where neither folder nor sink failed, the status and the whole text are as is due, or memory ran out.
 pub fn a_run_that_can_finish_does()
     ensures { ARunThatCanFinishDoes }
 {}

@@ -28,9 +28,9 @@ pub fn put_count(alloc: Global, line: &mut Vec<u8>, count: u64) -> Result<(), Me
     put(line, count.to_string(alloc)?.as_bytes())
 }
 
-// Each value behind a space.
-fn put_spaced(alloc: Global, line: &mut Vec<u8>, values: &[i64]) -> Result<(), Memory>
-    ensures { OnOk result (line.new.items ≡ line.old.items ++ spec.spaced values.now) }
+// Each value after a space.
+fn put_numbers(alloc: Global, line: &mut Vec<u8>, values: &[i64]) -> Result<(), Memory>
+    ensures { OnOk result (line.new.items ≡ line.old.items ++ spec.numbers_text values.now) }
 {
     for value in values {
         put(line, b" ")?;
@@ -68,13 +68,14 @@ pub fn vote_line(alloc: Global, name: &Name, value: i64) -> Result<Vec<u8>, Memo
 /// `ideal slot S cells V V ..`
 #[tactic(auto, unfolding(crate::specs::Lines::ideal_line))]
 pub fn ideal_line(alloc: Global, slot: u64, cells: &[i64]) -> Result<Vec<u8>, Memory>
-    ensures { IfOk result (λ line. line.items ≡ spec.ideal_line (record { slot = slot; cells = cells.now })) }
+    ensures { IfOk result (λ line.
+        line.items ≡ spec.ideal_line (record { slot = slot; cells = cells.now })) }
 {
     let mut line = Vec::new(alloc);
     put(&mut line, b"ideal slot ")?;
     put_count(alloc, &mut line, slot)?;
     put(&mut line, b" cells")?;
-    put_spaced(alloc, &mut line, cells)?;
+    put_numbers(alloc, &mut line, cells)?;
     put(&mut line, b"\n")?;
     Ok(line)
 }
@@ -150,7 +151,8 @@ fn put_byte(
     path: &Path,
     byte: u32,
 ) -> Result<(), Memory>
-    ensures { OnOk result (line.new.items ≡ line.old.items ++ (code.now ++ path_text path.now ++ codes " byte " ++ decimal byte)) }
+    ensures { OnOk result (line.new.items
+        ≡ line.old.items ++ (code.now ++ path_text path.now ++ codes " byte " ++ decimal byte)) }
 {
     put_place(alloc, line, code, path)?;
     put(line, b" byte ")?;

@@ -1,4 +1,4 @@
-//! The lines of a vote pattern and of its analysis, each with its line feed.
+//! The lines of a vote pattern and of its recovery, each with its line feed.
 //! This project's own.
 ghost use Rattle.std.specs.Prelude.{◌≡◌, ◌<◌, ◌++◌, ◌==◌, length, IfOk, OnOk};
 ghost use Rattle.rcp_base.specs.Search.{any_below};
@@ -6,33 +6,10 @@ ghost use Rattle.vote_pattern.specs.Votes.{is_in, votes_at};
 ghost use Rattle.rcp_top.specs.PatternLines as spec;
 
 use crate::lines::{put, put_count};
-use rcp_base::{Memory, Name};
-use rcp_model::{Node, Task, Variable};
+use rcp_base::Memory;
+use rcp_model::{Node, Variable};
 use std::alloc::Global;
-use task_lang::print_body;
 use vote_pattern::Pattern;
-
-/// `task NAME BODY`
-#[tactic(auto, unfolding(crate::specs::PatternLines::task_line))]
-pub fn task_line(
-    alloc: Global,
-    task: &Task,
-    sensors: &[Name],
-    cells: &[Name],
-) -> Result<Vec<u8>, Memory>
-    ensures { IfOk result (λ line. line.items ≡ spec.task_line sensors.now cells.now task.now) }
-{
-    let mut line = Vec::new(alloc);
-    put(&mut line, b"task ")?;
-    put(&mut line, task.name.bytes())?;
-    put(&mut line, b" ")?;
-    put(
-        &mut line,
-        print_body(alloc, task, sensors, cells)?.as_slice(),
-    )?;
-    put(&mut line, b"\n")?;
-    Ok(line)
-}
 
 /// `slot S votes NAME NAME ..`
 #[tactic(auto, unfolding(crate::specs::PatternLines::slot_line))]
@@ -43,7 +20,8 @@ pub fn slot_line(
     slot: u32,
 ) -> Result<Vec<u8>, Memory>
     requires { slot < pattern.now.slots }
-    ensures { IfOk result (λ line. line.items ≡ spec.slot_line cells.now slot (votes_at pattern.now slot)) }
+    ensures { IfOk result (λ line.
+        line.items ≡ spec.slot_line cells.now slot (votes_at pattern.now slot)) }
 {
     let mut line = Vec::new(alloc);
     put(&mut line, b"slot ")?;
@@ -62,18 +40,6 @@ pub fn votes_line(alloc: Global, count: u32) -> Result<Vec<u8>, Memory>
 {
     let mut line = Vec::new(alloc);
     put(&mut line, b"votes ")?;
-    put_count(alloc, &mut line, count as u64)?;
-    put(&mut line, b"\n")?;
-    Ok(line)
-}
-
-/// `spared COUNT`
-#[tactic(auto, unfolding(crate::specs::PatternLines::spared_line))]
-pub fn spared_line(alloc: Global, count: u32) -> Result<Vec<u8>, Memory>
-    ensures { IfOk result (λ line. line.items ≡ spec.spared_line count) }
-{
-    let mut line = Vec::new(alloc);
-    put(&mut line, b"spared ")?;
     put_count(alloc, &mut line, count as u64)?;
     put(&mut line, b"\n")?;
     Ok(line)
@@ -153,7 +119,7 @@ fn put_cell(line: &mut Vec<u8>, cells: &[Variable], cell: u32) -> Result<(), Mem
     }
 }
 
-// Each node behind a space.
+// Each node after a space.
 fn put_nodes(
     alloc: Global,
     line: &mut Vec<u8>,
@@ -171,7 +137,7 @@ fn put_nodes(
     Ok(())
 }
 
-// Each cell that the slot votes, behind a space.
+// Each cell that the slot votes, after a space.
 fn put_votes(
     line: &mut Vec<u8>,
     cells: &[Variable],
@@ -179,7 +145,8 @@ fn put_votes(
     slot: u32,
 ) -> Result<(), Memory>
     requires { slot < pattern.now.slots }
-    ensures { OnOk result (line.new.items ≡ line.old.items ++ spec.cells_text cells.now (votes_at pattern.now slot)) }
+    ensures { OnOk result (line.new.items
+        ≡ line.old.items ++ spec.cells_text cells.now (votes_at pattern.now slot)) }
 {
     for cell in 0..pattern.cells() {
         if pattern.has(slot, cell) {

@@ -1,6 +1,7 @@
 //! Hands a line to the sink.
 //! This project's own.
 ghost use Rattle.std.specs.Prelude.{◌≡◌, ℕ, List, IfOk};
+ghost use Rattle.rcp_base.specs.Adding.{Adds};
 ghost use Rattle.rcp_base.specs.Writing.{Writes};
 
 use rcp_base::{Memory, Sink, WriteError};
@@ -9,10 +10,26 @@ use rcp_base::{Memory, Sink, WriteError};
 #[tactic(auto, using(rcp_base::proofs::WritingLaws::writes_nothing))]
 pub fn send<S: Sink>(out: &mut S, line: Result<Vec<u8>, Memory>) -> Result<(), WriteError>
     ensures { (text : List ℕ) → IfOk line (λ bytes. bytes.items ≡ text)
-        → Writes (S.written out.old) (S.written out.new) (S.faults out.old) (S.faults out.new) result text }
+        → Writes (S.state out.old) (S.state out.new) result text }
 {
     match line {
         Ok(bytes) => out.write_all(bytes.as_slice()),
         Err(Memory) => Err(WriteError::Memory),
+    }
+}
+
+/// Adds a line to a text that is being written, unless an earlier write went wrong or there was no memory for it.
+#[tactic(auto, using(rcp_base::proofs::AddingLaws::adds_memory))]
+pub fn add<S: Sink>(
+    out: &mut S,
+    so_far: Result<(), WriteError>,
+    line: Result<Vec<u8>, Memory>,
+) -> Result<(), WriteError>
+    ensures { (text : List ℕ) → IfOk line (λ bytes. bytes.items ≡ text)
+        → Adds (S.state out.old) (S.state out.new) so_far result text }
+{
+    match so_far {
+        Ok(()) => send(out, line),
+        Err(error) => Err(error),
     }
 }

@@ -1,14 +1,20 @@
 //! The program's one call.
 //! This project's own.
-ghost use Rattle.std.specs.Prelude.{◌≡◌, ◌⊎◌, map, string_bytes};
-ghost use Rattle.rcp_base.specs.Files.{IfTold, Rises};
-ghost use Rattle.rcp_top.specs.Ending.{Ends, EndsOverSeen, IsMissingOne};
-ghost use Rattle.rcp_top.specs.Forms.{files_named};
+ghost use Rattle.std.specs.Prelude.{◌≡◌, ◌≢◌, ℕ, List, None};
+ghost use Rattle.rcp_base.specs.Files.{Rises};
+ghost use Rattle.rcp_base.specs.States.{IsLater};
+ghost use Rattle.rcp_top.specs.Forms.{form_in, form_of, bytes_of_words, work_of};
+ghost use Rattle.rcp_top.specs.Outcome.{Ends, EndsOver, HasUnread, outcome_at, usage};
+ghost use Rattle.rcp_top.specs.Reading.{Does};
 
-use crate::decide::decide;
+use crate::check::read_check;
+use crate::form::{Form, form_of};
+use crate::ideal::read_ideal;
+use crate::lines::usage_line;
+use crate::shown::{end, finish};
 use crate::status::Status;
-use crate::write::write_answer;
-use rcp_base::{Folder, Memory, Sink};
+use crate::thin::read_thin;
+use rcp_base::{Folder, Sink};
 use std::alloc::Global;
 
 /// Does all that the program does with the words after its name: reads the files that they name, and writes what is due.
@@ -19,21 +25,44 @@ pub fn rcp<F: Folder, S: Sink>(
     folder: &mut F,
     out: &mut S,
 ) -> Status
-    // Over the files that the call has seen, status and text are as defined; or the sink failed, or memory was wanting,
-    // behind a front of that text.
-    ensures ends { IfTold (F.files folder.old) (λ files.
-        EndsOverSeen (map (λ word. string_bytes word) words.now) files (Rises (F.faults folder.old) (F.faults folder.new))
-        (λ due. Ends due result (S.written out.old) (S.written out.new) (S.faults out.old) (S.faults out.new))) }
+    // Where the folder tells its files, status and text are as is due over them.
+    ensures ends { EndsOver (F.state folder.old) (F.state folder.new)
+        (bytes_of_words words.now) (λ due. Ends due result (S.state out.old) (S.state out.new)) }
 
     // These hold for all folders and sinks, also for those that tell nothing.
-    ensures read_fault { result ≡ Status.ReadFault
-        → Rises (F.faults folder.old) (F.faults folder.new)
-        ⊎ IsMissingOne (F.files folder.old) (files_named (map (λ word. string_bytes word) words.now)) }
-    ensures write_fault { result ≡ Status.WriteFault → Rises (S.faults out.old) (S.faults out.new) }
-    ensures files { F.files folder.new ≡ F.files folder.old }
+    ensures no_form { form_of (bytes_of_words words.now) ≡ None
+        → Ends usage result (S.state out.old) (S.state out.new) }
+    ensures usage { result ≡ Status.Usage
+        → form_of (bytes_of_words words.now) ≡ None }
+    ensures read_fault { result ≡ Status.ReadFault → (name : List ℕ)
+        × HasUnread (F.state folder.old) (F.state folder.new) (bytes_of_words words.now) name }
+    ensures write_fault { result ≡ Status.WriteFault
+        → Rises (S.state out.old).faults (S.state out.new).faults }
+    ensures files { (F.state folder.new).files ≡ (F.state folder.old).files }
 {
-    match decide(alloc, words, folder) {
-        Ok(answer) => write_answer(alloc, answer, out),
-        Err(Memory) => Status::Memory,
+    match form_of(words) {
+        Some(form) => run_form(alloc, form, folder, out),
+        None => end(Status::Usage, out.write_all(usage_line())),
+    }
+}
+
+// Reads and writes what is due for a form of words.
+fn run_form<F: Folder, S: Sink>(
+    alloc: Global,
+    form: Form<'_>,
+    folder: &mut F,
+    out: &mut S,
+) -> Status
+    ensures does { Does (F.state folder.old) (F.state folder.new) (work_of (form_in form.entry))
+        (λ end. Ends (outcome_at end) result (S.state out.old) (S.state out.new)) }
+    ensures form { result ≢ Status.Usage }
+    ensures later { IsLater (F.state folder.old) (F.state folder.new) }
+{
+    match form {
+        Form::Check { file } => finish(alloc, read_check(alloc, folder, file), out),
+        Form::Thin { file } => finish(alloc, read_thin(alloc, folder, file), out),
+        Form::Ideal { file, journal } => {
+            finish(alloc, read_ideal(alloc, folder, file, journal), out)
+        }
     }
 }

@@ -1,5 +1,5 @@
 use Rattle.std.proofs.Common.{◌≡◌, take}
-use Rattle.rcp_top.specs.PatternLines.{names_of}
+use Rattle.rcp_top.specs.Check.{names_of}
 use Rattle.rcp_top.proofs.check.names_of.Given as goal
 
 abbrev pub invariant-loop-variable : goal.invariant-loop-variable

@@ -1,10 +1,9 @@
--- The lines so far and those of the tasks that are left make the whole.
-use Rattle.std.proofs.Common.{drop, flat_map}
-use Rattle.rcp_base.specs.Writing.{Progress}
-use Rattle.rcp_top.specs.PatternLines.{task_line}
+-- The lines of the tasks so far were added.
+use Rattle.std.proofs.Common.{take, flat_map}
+use Rattle.rcp_base.specs.Adding.{Adds}
+use Rattle.rcp_top.specs.Check.{task_line}
 use Rattle.rcp_top.proofs.check.write_task_lines.Given as goal
 
 abbrev pub invariant-loop-task : goal.invariant-loop-task
 invariant-loop-task g l =
-    Progress (g.S.Sink.written l.initial.out) (g.S.Sink.written l.out) (g.S.Sink.faults l.initial.out) (g.S.Sink.faults l.out)
-    (flat_map (task_line l.sensors l.cells) (drop l.task-index l.tasks)) (flat_map (task_line l.sensors l.cells) l.tasks)
+    Adds (g.S.Sink.state l.initial.out) (g.S.Sink.state l.out) l.initial.so_far l.so_far (flat_map (task_line l.sensors l.cells) (take l.task-index l.tasks))

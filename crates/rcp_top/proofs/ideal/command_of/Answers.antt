@@ -1,4 +1,4 @@
--- Behind a frame there is a command for each actuator, in the actuator's place.
+-- After a frame there is a command for each actuator, in the actuator's place.
 use Rattle.std.proofs.Common.{◌≡◌, ℤ, pos, ◌∷◌, map, get_or, Some, ◌∙◌, to_z, of_z, w64, arith}
 use Rattle.std.proofs.lemmas.Int.{ints, to_z-of_z}
 use Rattle.std.proofs.lemmas.List.{get_or-map}

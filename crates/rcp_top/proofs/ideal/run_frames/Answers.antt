@@ -1,12 +1,11 @@
--- The frame that is written is the one behind which the processor stands, and what is left is to be written.
-use Rattle.std.proofs.Common.{◌≡◌, ◌<◌, ◌≤◌, ℤ, List, IfOk, length, get_or, slice_get, Some, sym, ◌∙◌, subst, arith}
+-- The frame that is written is the one after which the processor stands, and what is left is to be written.
+use Rattle.std.proofs.Common.{◌+◌, ◌≡◌, ◌<◌, ◌≤◌, ℤ, List, IfOk, length, get_or, slice_get, Some, sym, ◌∙◌, subst, arith}
 use Rattle.std.proofs.lemmas.Result.{err_from_is_err_and}
-use Rattle.rcp_base.proofs.WritingLaws.{progress_start, progress_more, progress_stop, progress_last}
-use Rattle.rcp_model.specs.FrameRows.{FrameRows}
+use Rattle.rcp_base.proofs.AddingLaws.{halfway_start, halfway_as, halfway_stop, halfway_last}
 use Rattle.rcp_top.specs.Lines.{end_line}
-use Rattle.rcp_top.specs.RunText.{sensors_in}
-use Rattle.rcp_top.proofs.FrameLemmas.{behind, next_frame, rest_at_start, rest_at, rest_at_end, stands_behind, progress_as}
-use Rattle.rcp_top.proofs.HistoryLemmas.{before_the_first, can_fill_at, is_there, behind_the_next, as_many, sensors_there}
+use Rattle.rcp_top.specs.Ideal.{sensors_of_history}
+use Rattle.rcp_top.proofs.FrameLemmas.{past_frames, rest_at_start, rest_at_end, stands_after_next, frame_more}
+use Rattle.rcp_top.proofs.HistoryLaws.{before_the_first, frame_at, after_the_next, as_many}
 use Rattle.rcp_top.proofs.ideal.run_frames.Goals as goal
 
 pub loop-t-init : goal.loop-t-init
@@ -16,30 +15,22 @@ loop-t-init g c = (
     told = tells;
     rows = before_the_first c.args.plan.now history c.args.input.now c.requires.of_plan c.requires.input;
     uni = c.requires.start;
-    text = progress_as _ _ _ _ _ _ _ (sym (rest_at_start c.args.plan.now (sensors_in history))) (progress_start _ _ _);
+    text = halfway_as _ _ (sym (rest_at_start c.args.plan.now (sensors_of_history history))) (halfway_start _ _);
   },
 )
 
-pub returns-in_err-write_frame : goal.returns-in_err-write_frame
-returns-in_err-write_frame g c history tells are =
-    let p = err_from_is_err_and c.from_residual.result c.from_residual.ensures.1 in
+pub returns-then-is_err : goal.returns-then-is_err
+returns-then-is_err g c history tells are =
     let plan = c.args.plan.now in
     let t = c.loop-t.t in
+    let frames = sensors_of_history history in
+    let sensors = c.sensors.result.now in
     let so_far = c.loop-t.invariant.1 history tells are in
-    let more : t < length history = omega (arith, c.loop-t-test.true, c.frames-frames.ensures c.args.plan.now history tells) in
-    let fills = can_fill_at plan history _ t c.loop-t.input c.loop-t.invariant.0 are more so_far.rows in
-    let rows : FrameRows = c.fill.new.input in
-    let is : slice_get history t ≡ Some rows = is_there history _ t rows c.loop-t.invariant.0 (c.fill.ensures.rows plan history so_far.told fills) in
-    let sensors : List ℤ = c.sensors.result.now in
-    let same : sensors ≡ rows.sensors = c.sensors.ensures in
-    let frames : List (List ℤ) = sensors_in history in
-    let there : sensors ≡ get_or frames t sensors =
-    let P : List ℤ → Type 0 = λ xs. xs ≡ get_or frames t xs in subst P (sym same) (sensors_there history t rows is) in
-    let below : t < length frames = omega (arith, more, as_many history) in
-    let stands = c.frame.ensures plan (behind frames t) so_far.uni in
-    rw (p.1, p.2) (progress_stop _ _ _ _ _ _ _ (next_frame plan sensors t (behind frames t)) _ _
-    (progress_as _ _ _ _ _ _ _ (rest_at plan frames t sensors below there) so_far.text)
-    (c.in_err-write_frame.ensures sensors (behind frames t) stands))
+    let more : t < length history = omega (arith, c.loop-t-test.true, c.frames-frames.ensures plan history tells) in
+    let next = frame_at plan history _ t _ c.fill.new.input sensors c.loop-t.invariant.0 are more so_far.rows (c.fill.ensures.rows plan history so_far.told) c.sensors.ensures in
+    halfway_stop c.write_frame-so_far.result (sym c.is_err.ensures.value ∙ c.if-is_err.true)
+    (frame_more plan frames t sensors (g.S.Sink.state c.write_frame-so_far.new.out) c.write_frame-so_far.result next.below next.there so_far.text
+    (c.write_frame-so_far.ensures sensors (past_frames frames t) (c.frame.ensures plan (past_frames frames t) so_far.uni)))
 
 pub loop-t-preserved : goal.loop-t-preserved
 loop-t-preserved g c = (
@@ -47,36 +38,28 @@ loop-t-preserved g c = (
   λ history tells are.
       let plan = c.args.plan.now in
       let t = c.loop-t.t in
+      let frames = sensors_of_history history in
+      let sensors = c.sensors.result.now in
       let so_far = c.loop-t.invariant.1 history tells are in
-      let more : t < length history = omega (arith, c.loop-t-test.true, c.frames-frames.ensures c.args.plan.now history tells) in
-      let fills = can_fill_at plan history _ t c.loop-t.input c.loop-t.invariant.0 are more so_far.rows in
-      let rows : FrameRows = c.fill.new.input in
-      let is : slice_get history t ≡ Some rows = is_there history _ t rows c.loop-t.invariant.0 (c.fill.ensures.rows plan history so_far.told fills) in
-      let sensors : List ℤ = c.sensors.result.now in
-      let same : sensors ≡ rows.sensors = c.sensors.ensures in
-      let frames : List (List ℤ) = sensors_in history in
-      let there : sensors ≡ get_or frames t sensors =
-      let P : List ℤ → Type 0 = λ xs. xs ≡ get_or frames t xs in subst P (sym same) (sensors_there history t rows is) in
-      let below : t < length frames = omega (arith, more, as_many history) in
-      let stands = c.frame.ensures plan (behind frames t) so_far.uni in
+      let more : t < length history = omega (arith, c.loop-t-test.true, c.frames-frames.ensures plan history tells) in
+        let next = frame_at plan history _ t _ c.fill.new.input sensors c.loop-t.invariant.0 are more so_far.rows (c.fill.ensures.rows plan history so_far.told) c.sensors.ensures in
+      let stands = c.frame.ensures plan (past_frames frames t) so_far.uni in
       record {
         told = c.fill.ensures.history plan history so_far.told;
-        rows = behind_the_next plan history t rows are is;
-        uni = stands_behind plan frames _ t sensors below there stands;
+        rows = after_the_next plan history t c.fill.new.input are next.is;
+        uni = stands_after_next plan frames _ t sensors next.below next.there stands;
         text =
-            progress_more _ _ _ _ _ _ _ (next_frame plan sensors t (behind frames t)) _ _
-            (progress_as _ _ _ _ _ _ _ (rest_at plan frames t sensors below there) so_far.text)
-            (c.in_ok-write_frame.ensures sensors (behind frames t) stands);
+            frame_more plan frames t sensors (g.S.Sink.state c.write_frame-so_far.new.out) c.write_frame-so_far.result next.below next.there so_far.text
+            (c.write_frame-so_far.ensures sensors (past_frames frames t) stands);
       },
 )
 
 pub returns : goal.returns
 returns g c history tells are =
     let so_far = c.loop-t.invariant.1 history tells are in
-    let frames : List (List ℤ) = sensors_in history in
+    let frames : List (List ℤ) = sensors_of_history history in
     let all = c.frames-frames.ensures c.args.plan.now history tells in
     let least : length frames ≤ c.loop-t.t = omega (arith, c.loop-t-test.false, all, as_many history) in
     let line = subst (λ n. IfOk c.end_line.result (λ line. line.items ≡ end_line n)) (all ∙ sym (as_many history)) c.end_line.ensures in
-    progress_last _ _ _ _ _ _ _ (end_line (length frames)) _
-    (progress_as _ _ _ _ _ _ _ (rest_at_end c.args.plan.now frames c.loop-t.t least) so_far.text)
-    (c.send.ensures (end_line (length frames)) line)
+    halfway_last (g.S.Sink.state c.add.new.out) c.add.result (end_line (length frames))
+    (halfway_as _ _ (rest_at_end c.args.plan.now frames c.loop-t.t least) so_far.text) (c.add.ensures (end_line (length frames)) line)

@@ -1,4 +1,4 @@
-use Rattle.rcp_top.proofs.FinishLemmas.{finished}
+use Rattle.rcp_top.proofs.LawLemmas.{finished}
 use Rattle.rcp_top.proofs.laws.a_run_that_can_finish_does.Goals as goal
 
 pub returns : goal.returns

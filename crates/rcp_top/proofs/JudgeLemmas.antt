@@ -1,0 +1,51 @@
+-- What a verdict on a plan's pattern says.
+use Rattle.std.proofs.Common.{false, true, ◌≡◌, ◌⊎◌, ℕ, ◌<◌, List, length, cond, Result, Ok, Err, IfOk, refl, inl, inr, sym, ap, ◌∙◌, subst}
+use Rattle.std.proofs.lemmas.Bool.{cases_Bool, cond-true, cond-false, lt-leb}
+use Rattle.rcp_base.specs.declared.memory.Memory.{Memory}
+use Rattle.rcp_model.specs.PlanGraph.{graph_of_plan}
+use Rattle.rcp_model.specs.Walk.{Graph}
+use Rattle.rcp_model.specs.declared.plan.PlanParts.{PlanParts}
+use Rattle.recovery_analysis.specs.declared.verdict.Verdict as verdicts
+use Rattle.recovery_analysis.specs.Verdict.{IsVerdictOfGraphs, verdict_of}
+use Rattle.task_graph.specs.Rows.{Rows, AreFeedsOf}
+use Rattle.vote_pattern.specs.Votes.{Votes, AreVotesOf}
+use Rattle.fault_journal.specs.declared.fault.JournalFault.{JournalFault}
+use Rattle.fault_journal.specs.declared.fault.JournalFault.TheVariants as journal_fault
+use Rattle.fault_journal.specs.History.{journal_verdict}
+use Rattle.fault_journal.specs.Journal.{journal_rows, rows_in, records_of}
+use Rattle.task_file.specs.declared.fault.FileFault.{FileFault}
+use Rattle.task_file.specs.declared.fault.FileFault.TheVariants as fault
+use Rattle.task_file.specs.Verdict.{Verdict, IsFault, ◌>>=◌}
+use Rattle.task_file.specs.Shape.{sections_of}
+use Rattle.task_file.specs.TaskFile.{task_file_verdict, document_of, parts_in}
+use Rattle.rcp_top.specs.Finds.{IsSeenUpTo}
+
+-- the verdict on the rows and votes of a graph
+pub judged_graph : (g : Graph) (rows : Rows) (votes : Votes) (result : Result verdicts.Verdict Memory) → IfOk result (IsVerdictOfGraphs rows votes)
+    → AreFeedsOf g rows → AreVotesOf g votes → IfOk result (λ verdict. verdict ≡ verdict_of g)
+judged_graph g rows votes (Err e) is feeds pattern = tt
+judged_graph g rows votes (Ok verdict) is feeds pattern = is g feeds pattern
+
+-- a journal over the limit is refused
+long_rows : (plan : PlanParts) (bytes : List ℕ) → 67108864 < length bytes → journal_rows plan bytes ≡ Err journal_fault.TooLong
+unfolding journal_rows
+long_rows plan bytes longer = ap (λ b. cond b (rows_in plan (records_of bytes)) (Err journal_fault.TooLong)) (lt-leb (length bytes) 67108864 longer)
+
+long_journal : (plan : PlanParts) (bytes : List ℕ) → 67108864 < length bytes → journal_verdict plan bytes ≡ Err journal_fault.TooLong
+unfolding journal_verdict
+long_journal plan bytes longer = rw (long_rows plan bytes longer) refl
+
+-- a task file over the limit is refused
+long_file : (bytes : List ℕ) → 1048576 < length bytes → task_file_verdict bytes ≡ Err fault.TooLong
+unfolding task_file_verdict
+long_file bytes longer =
+    ap (λ b. cond b (document_of bytes >>= sections_of >>= parts_in) (Err fault.TooLong)) (lt-leb (length bytes) 1048576 longer)
+
+-- files that are seen up to the limit have the verdict of what was seen
+pub same_file : (seen bytes : List ℕ) → IsSeenUpTo 1048576 seen bytes → task_file_verdict seen ≡ task_file_verdict bytes
+same_file seen bytes (inl is) = ap task_file_verdict is
+same_file seen bytes (inr both) = long_file seen both.0 ∙ sym (long_file bytes both.1)
+
+pub same_journal : (plan : PlanParts) (seen bytes : List ℕ) → IsSeenUpTo 67108864 seen bytes → journal_verdict plan seen ≡ journal_verdict plan bytes
+same_journal plan seen bytes (inl is) = ap (journal_verdict plan) is
+same_journal plan seen bytes (inr both) = long_journal plan seen both.0 ∙ sym (long_journal plan bytes both.1)

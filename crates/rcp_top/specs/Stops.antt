@@ -1,0 +1,27 @@
+-- Why a call stops, by the fault of a file. This project's own.
+use Rattle.std.specs.Prelude.{Bool, true, false, if◌then◌else◌}
+use Rattle.task_file.specs.declared.fault.FileFault.{FileFault}
+use Rattle.task_file.specs.declared.fault.FileFault.TheVariants as fault
+use Rattle.fault_journal.specs.declared.fault.JournalFault.{JournalFault}
+use Rattle.fault_journal.specs.declared.fault.JournalFault.TheVariants as journal
+use Rattle.rcp_top.specs.declared.stop.Refusal.TheVariants as refusal
+use Rattle.rcp_top.specs.declared.stop.Stop.{Stop}
+use Rattle.rcp_top.specs.declared.stop.Stop.TheVariants as stop
+
+-- memory ran out while the task file was read
+abbrev pub is_file_memory : FileFault → Bool
+is_file_memory fault.Memory = true
+is_file_memory _ = false
+
+-- memory ran out while the journal was read
+abbrev pub is_journal_memory : JournalFault → Bool
+is_journal_memory journal.Memory = true
+is_journal_memory _ = false
+
+-- the stop at a task file's fault: it is refused, unless memory ran out
+abbrev pub file_stop : FileFault → Stop
+file_stop fault = if is_file_memory fault then stop.Memory else stop.Refused (refusal.TaskFile fault)
+
+-- the stop at a journal's fault
+abbrev pub journal_stop : JournalFault → Stop
+journal_stop fault = if is_journal_memory fault then stop.Memory else stop.Refused (refusal.Journal fault)

@@ -1,0 +1,126 @@
+//! `thin FILE`: a plan's vote pattern without the votes that can be spared.
+//! This project's own.
+ghost use Rattle.std.specs.Prelude.{◌≡◌, false, IfOk};
+ghost use Rattle.rcp_base.specs.States.{IsLater};
+ghost use Rattle.rcp_base.specs.Writing.{Writes};
+ghost use Rattle.rcp_model.specs.PlanGraph.{graph_of_plan};
+ghost use Rattle.rcp_model.specs.Levels.{has_cycle};
+ghost use Rattle.vote_pattern.specs.Votes.{AreVotesOf};
+ghost use Rattle.rcp_top.specs.Finds.{Finds};
+ghost use Rattle.rcp_top.specs.Thin as spec;
+ghost use Rattle.rcp_top.specs.Thin.{IsThinned, ShowsThin, thin_of, thinned_graph};
+
+use crate::lines::{put, put_count};
+use crate::pattern_text::{write_pattern, write_recovery};
+use crate::read::read_plan_at;
+use crate::send::add;
+use crate::shown::Shown;
+use crate::stop::Stop;
+use pattern_thinning::thin;
+use rcp_base::{Folder, List, Memory, Sink, WriteError};
+use rcp_model::{Node, Plan, PlanParts};
+use recovery_analysis::{Verdict, analyse};
+use std::alloc::Global;
+use task_graph::DepRows;
+use vote_pattern::Pattern;
+
+/// A vote pattern without the votes that could be spared, how many they were, and how soon it recovers.
+#[derive(Drop)]
+pub struct Thinned {
+    pub pattern: Pattern,
+    pub spared: u32,
+    pub length: u32,
+    pub walk: List<Node>,
+}
+
+/// A plan with its thinned pattern.
+#[derive(Drop)]
+pub struct Thin {
+    pub plan: Plan,
+    pub thinned: Thinned,
+}
+
+/// Reads the plan, and thins its pattern.
+pub fn read_thin<'a, F: Folder>(
+    alloc: Global,
+    folder: &mut F,
+    file: &'a str,
+) -> Result<Thin, Stop<'a>>
+    ensures finds { Finds ShowsThin (F.state folder.old) (F.state folder.new)
+        (thin_of file.now) result }
+    ensures later { IsLater (F.state folder.old) (F.state folder.new) }
+{
+    let plan = read_plan_at(alloc, folder, file)?.plan;
+    let thinned = thinned_pattern(alloc, &plan)?;
+    Ok(Thin { plan, thinned })
+}
+
+// The thinned pattern of a plan whose pattern has no unvoted cycle.
+fn thinned_pattern(alloc: Global, plan: &Plan) -> Result<Thinned, Memory>
+    requires { has_cycle (graph_of_plan plan.now) ≡ false }
+    ensures { IfOk result (IsThinned plan.now) }
+{
+    let rows = DepRows::build(alloc, plan)?;
+    let mut pattern = Pattern::of(alloc, plan)?;
+    let limit = plan.parts().recovery_limit;
+    let spared = thin(alloc, &rows, &mut pattern, limit)?;
+    match analyse(alloc, &rows, &pattern)? {
+        Verdict::Recovers { length, walk } => Ok(Thinned {
+            pattern,
+            spared,
+            length,
+            walk,
+        }),
+        Verdict::Cycle { .. } => unreachable!(),
+    }
+}
+
+impl Shown for Thin {
+    ghost shows = { ShowsThin };
+
+    fn write<S: Sink>(self, alloc: Global, out: &mut S) -> Result<(), WriteError> {
+        let thinned = &self.thinned;
+        write_thin(
+            alloc,
+            self.plan.parts(),
+            &thinned.pattern,
+            thinned.spared,
+            thinned.length,
+            thinned.walk.as_slice(),
+            out,
+        )
+    }
+}
+
+// Writes the votes that are left of a plan's, how many were spared, and how soon they recover.
+#[tactic(auto, using(rcp_base::proofs::AddingLaws::adds_all), unfolding(crate::specs::Thin::thin_text))]
+fn write_thin<S: Sink>(
+    alloc: Global,
+    plan: &PlanParts,
+    pattern: &Pattern,
+    spared: u32,
+    length: u32,
+    walk: &[Node],
+    out: &mut S,
+) -> Result<(), WriteError>
+    requires { AreVotesOf (thinned_graph plan.now) pattern.now }
+    ensures { Writes (S.state out.old) (S.state out.new) result
+        (spec.thin_text plan.now spared length walk.now) }
+{
+    let cells = plan.cells.as_slice();
+    let so_far = write_pattern(alloc, cells, pattern, out, Ok(()));
+    let so_far = add(out, so_far, spared_line(alloc, spared));
+    write_recovery(alloc, cells, length, walk, out, so_far)
+}
+
+// `spared COUNT`
+#[tactic(auto, unfolding(crate::specs::Thin::spared_line))]
+fn spared_line(alloc: Global, count: u32) -> Result<Vec<u8>, Memory>
+    ensures { IfOk result (λ line. line.items ≡ spec.spared_line count) }
+{
+    let mut line = Vec::new(alloc);
+    put(&mut line, b"spared ")?;
+    put_count(alloc, &mut line, count as u64)?;
+    put(&mut line, b"\n")?;
+    Ok(line)
+}
