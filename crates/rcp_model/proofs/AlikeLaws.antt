@@ -94,7 +94,7 @@ walk_same g h a nodes w = record {
 pub ends_same : (g h : Graph) → IsSame g h → (k : ℕ) (n : Node) → EndsWalk g k n → EndsWalk h k n
 ends_same g h a k n e = record { nodes = e.nodes; walk = walk_same g h a e.nodes e.walk; many = e.many; some = e.some; last = e.last }
 
-ends_unvoted : (g : Graph) (k : ℕ) (n : Node) → EndsWalk g k n → IsUnvoted g n
+pub ends_unvoted : (g : Graph) (k : ℕ) (n : Node) → EndsWalk g k n → IsUnvoted g n
 ends_unvoted g k n e =
     let many : length e.nodes ≡ k = e.many in
     let some : 0 < k = e.some in

@@ -9,20 +9,20 @@ use Rattle.rcp_model.specs.Shown.{recovery_length, witness_walk, witness_cycle, 
 use Rattle.rcp_model.specs.Thinning.{thinned}
 use Rattle.rcp_model.specs.PlanGraph.{voted_at}
 
-abbrev node : ℕ → ℕ → Node
+abbrev pub node : ℕ → ℕ → Node
 node slot cell = record { slot = slot; cell = cell }
 
-abbrev copies : ℕ → ℕ → ℕ → Bool
+abbrev pub copies : ℕ → ℕ → ℕ → Bool
 copies slot from to = if slot == 0 then from == 0 else from == to
 
-abbrev voting : (ℕ → ℕ → Bool) → Graph
+abbrev pub voting : (ℕ → ℕ → Bool) → Graph
 voting votes = record { slots = 2; cells = 2; feeds = copies; votes = votes }
 
-abbrev nothing : ℕ → ℕ → Bool
+abbrev pub nothing : ℕ → ℕ → Bool
 nothing slot cell = false
 
 -- the first cell in the second slot
-abbrev one_vote : ℕ → ℕ → Bool
+abbrev pub one_vote : ℕ → ℕ → Bool
 one_vote slot cell = slot == 1 && cell == 0
 
 abbrev everything : ℕ → ℕ → Bool

@@ -26,3 +26,6 @@ mod IdealExamples
 mod ClockExamples
 mod RowExamples
 mod GraphExamples
+mod WalkExamples
+mod CycleExamples
+mod FeedingExamples
