@@ -7,7 +7,7 @@ use Rattle.rcp_model.specs.Node.{IsLeast}
 use Rattle.rcp_model.specs.Walk.{Graph, node_count, at, IsUnvoted, StepsTo, IsUnvotedWalk, EndsWalk, IsUnvotedCycle}
 use Rattle.rcp_model.specs.Levels.{has_cycle}
 use Rattle.rcp_model.specs.Recovery.{IsRecovery}
-use Rattle.rcp_model.specs.Witness.{IsCore, IsReached, IsWitnessCycle, IsWitnessWalk, IsShownCycle}
+use Rattle.rcp_model.specs.Witness.{IsCore, IsReached, IsWitnessWalk, IsShownCycle}
 use Rattle.rcp_model.proofs.ShownLaws.{cycle_found, cycle_from}
 
 -- as many slots and cells, and the same cells feed the same cells

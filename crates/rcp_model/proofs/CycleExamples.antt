@@ -1,15 +1,15 @@
 -- The cycle of the graph of two slots and two cells without a vote, by the statements: the first cell keeps its value.
 -- This project's own.
-use Rattle.std.proofs.Common.{◌≡◌, ◌≢◌, refl, sym, ◌∙◌, ap, ap₂, subst, ℕ, ◌+◌, ◌-◌, ◌%◌, ◌<◌, ◌≤◌, zero, suc, true, false, eqb, List, [], ◌∷◌, length, inl, inr, arith}
+use Rattle.std.proofs.Common.{◌≡◌, ◌≢◌, refl, sym, ap, ap₂, subst, ℕ, ◌+◌, ◌%◌, ◌<◌, zero, suc, List, [], ◌∷◌, arith}
 use Rattle.std.proofs.lemmas.Bool.{eqb-true}
 use Rattle.rcp_model.specs.declared.node.Node.{Node}
-use Rattle.rcp_model.specs.Node.{IsLeast, IsUpTo, make_node}
-use Rattle.rcp_model.specs.Walk.{Graph, IsUnvoted, StepsTo, at, IsUnvotedWalk, EndsWalk, IsUnvotedCycle}
+use Rattle.rcp_model.specs.Node.{IsUpTo, make_node}
+use Rattle.rcp_model.specs.Walk.{IsUnvoted, StepsTo, at, IsUnvotedCycle}
 use Rattle.rcp_model.specs.Witness.{IsCore, IsBack, IsReached, IsWitnessCycle}
 use Rattle.rcp_model.proofs.OrderLaws.{up_to_from, up_to_same}
 use Rattle.rcp_model.proofs.LevelLaws.{ends_one, ends_push}
 use Rattle.rcp_model.proofs.AlikeLaws.{ends_unvoted}
-use Rattle.rcp_model.proofs.GraphExamples.{node, copies, voting, nothing}
+use Rattle.rcp_model.proofs.GraphExamples.{node, voting, nothing}
 
 first : IsUnvoted (voting nothing) (node 0 0)
 first = record { slot_in = omega arith; cell_in = omega arith; unvoted = refl }

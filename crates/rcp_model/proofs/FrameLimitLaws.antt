@@ -1,14 +1,14 @@
 -- Rows stay within the limits of a journal when one is written that is, and when all but the sensors go.
-use Rattle.std.proofs.Common.{◌≡◌, ◌≢◌, ℕ, ◌+◌, ◌*◌, ◌<◌, ◌≤◌, ◌==◌, Bool, true, false, cond, ℤ, pos, ◌≤ℤ◌, List, length, set, get_or, replicate, Option, None, Some, refl, sym, ap, subst, ◌∙◌, arith, inl, inr, eqb}
+use Rattle.std.proofs.Common.{◌≡◌, ◌≢◌, ℕ, ◌+◌, ◌*◌, ◌<◌, ◌==◌, Bool, true, false, ℤ, pos, List, length, get_or, replicate, Option, None, Some, refl, sym, ap, subst, ◌∙◌, arith, inl, inr}
 use Rattle.std.specs.Prelude.{◌&&◌, nat_lt, if◌then◌else◌}
 use Rattle.std.proofs.lemmas.Int.{ints}
-use Rattle.std.proofs.lemmas.Bool.{cases_Bool, cases_lt, cond-true, cond-false, le-ltb, lt-ltb, eqb-true, eq-eqb}
+use Rattle.std.proofs.lemmas.Bool.{cases_Bool, cases_lt, cond-true, cond-false, le-ltb, eqb-true}
 use Rattle.std.proofs.lemmas.List.{get_or-replicate, get_or_past, length-replicate}
 use Rattle.std.proofs.lemmas.Option.{none-some, same_Some}
 use Rattle.rcp_model.specs.declared.plan.PlanParts.{PlanParts}
-use Rattle.rcp_model.specs.FrameLimits.{IsWithin, IsDelayOf, IsUntouchedByItself, AreWithinLimits}
-use Rattle.rcp_model.specs.FrameRows.{FrameRows, AreTables, no_rows, entry_at, is_down, slot_row, cell_row, act_row, lie_row, lie_slot_row, is_dropped, skew_of, rate_of, delay_of, quiet_rows}
-use Rattle.rcp_model.specs.RowLaws.{RowsTold, told_of, at_one, at_pair, at_triple}
+use Rattle.rcp_model.specs.FrameLimits.{IsWithin, IsDelayOf, AreWithinLimits}
+use Rattle.rcp_model.specs.FrameRows.{FrameRows, AreTables, no_rows, entry_at, slot_row, lie_row, lie_slot_row, is_dropped, skew_of, rate_of, delay_of, quiet_rows}
+use Rattle.rcp_model.specs.RowLaws.{RowsTold, told_of, at_one, at_pair}
 use Rattle.rcp_model.specs.RowWrites.{with_sensor, with_down, with_slot, with_cell, with_act, with_lie_slot, with_drop, with_skew, with_rate, with_delay, with_lie, cleared}
 use Rattle.rcp_model.specs.Slot.{slot_count}
 use Rattle.rcp_model.specs.TimingRules.{AreInRange, KeepsRules}

@@ -1,5 +1,5 @@
 -- Rows stay rows of a frame of their plan when one more is written, and when all but the sensors go.
-use Rattle.std.proofs.Common.{◌≡◌, ◌≢◌, ℕ, ◌<◌, ℤ, pos, length, set, length-set, ◌∙◌, refl}
+use Rattle.std.proofs.Common.{◌≡◌, ◌≢◌, ℕ, ◌<◌, ℤ, length, length-set, ◌∙◌, refl}
 use Rattle.std.proofs.lemmas.List.{length-replicate}
 use Rattle.rcp_model.specs.declared.plan.PlanParts.{PlanParts}
 use Rattle.rcp_model.specs.FrameLimits.{IsWithin, IsDelayOf, IsFrameOf}

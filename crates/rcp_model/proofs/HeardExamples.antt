@@ -7,7 +7,7 @@ use Rattle.rcp_base.specs.Tables.{table}
 use Rattle.rcp_model.specs.FrameRows.{FrameRows, no_rows}
 use Rattle.rcp_model.specs.RowWrites.{with_down, with_drop, with_lie, with_lie_slot}
 use Rattle.rcp_model.specs.System.{SystemState, state_after}
-use Rattle.rcp_model.proofs.ComputedRuns.{Engine, engine_of, state_by, state_by_own}
+use Rattle.rcp_model.proofs.ComputedRuns.{state_by, state_by_own}
 use Rattle.rcp_model.proofs.ExampleEngines.{motor_engine, motor_engine_is}
 use Rattle.rcp_model.proofs.ExamplePlans.{error_cell, sum_cell, motor_plan}
 use Rattle.rcp_model.proofs.ExampleRuns.{definitions}

@@ -1,19 +1,19 @@
 -- Frames by number, and frames in lists with the newest first.
-use Rattle.std.proofs.Common.{◌≡◌, ◌+◌, ◌*◌, ◌<◌, ◌≤◌, ◌%◌, ◌↔◌, ℕ, zero, suc, Bool, true, false, ℤ, pos, List, [], ◌∷◌, ◌++◌, length, take, get_or, map, reverse, count_by, refl, sym, ap, subst, ◌∙◌, arith, add-one, inl, inr}
+use Rattle.std.proofs.Common.{◌≡◌, ◌+◌, ◌*◌, ◌<◌, ◌≤◌, ◌%◌, ◌↔◌, ℕ, zero, suc, Bool, true, false, pos, [], ◌∷◌, ◌++◌, length, take, reverse, count_by, refl, sym, ap, subst, ◌∙◌, arith, inl, inr}
 use Rattle.std.specs.Prelude.{◌&&◌, ◌||◌, nat_lt, slice_index_or}
-use Rattle.std.specs.List.{range_with_len, list_all}
+use Rattle.std.specs.List.{range_with_len}
 use Rattle.std.proofs.lemmas.Bool.{cases_eq, cases_lt, lt-ltb, le-ltb}
 use Rattle.std.proofs.lemmas.List.{take_more, reverse-append, length-reverse, length-take-le, length-map}
 use Rattle.rcp_base.specs.Search.{all_below}
 use Rattle.rcp_base.proofs.SearchLaws.{all_more, all_same, all_pass}
 use Rattle.rcp_model.specs.declared.plan.PlanParts.{PlanParts}
-use Rattle.rcp_model.specs.AtFrame.{rows_at, ideal_after, system_after, is_healthy_in, HasHealthyMajorityAt, MeetsGuardAt}
+use Rattle.rcp_model.specs.AtFrame.{rows_at, is_healthy_in, HasHealthyMajorityAt}
 use Rattle.rcp_model.specs.FrameRows.{FrameRows, quiet_rows}
-use Rattle.rcp_model.specs.Health.{is_healthy, is_healthy_for, healthy_count, HasHealthyMajority, MeetsGuard}
+use Rattle.rcp_model.specs.Health.{is_healthy, is_healthy_for, HasHealthyMajority, MeetsGuard}
 use Rattle.rcp_model.specs.History.{History, past_of, sensors_of}
 use Rattle.rcp_model.specs.HistoryLaws.{StepsByFrames, JudgesByFrames}
 use Rattle.rcp_model.specs.Slot.{slot_count, cells_after_slot, actuator_value, no_actuator}
-use Rattle.rcp_model.specs.System.{state_after, next_state}
+use Rattle.rcp_model.specs.System.{state_after}
 use Rattle.rcp_model.specs.Uniprocessor.{ideal_slot, ideal_cells}
 
 -- one frame more

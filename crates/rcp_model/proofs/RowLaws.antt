@@ -1,11 +1,11 @@
 -- A row that is written reads back at its place, and all else is as before.
-use Rattle.std.proofs.Common.{◌≡◌, ◌≢◌, ℕ, ◌+◌, ◌*◌, ◌<◌, ◌==◌, Bool, true, false, ℤ, pos, List, length, set, get_or, Option, None, Some, refl, sym, ap, ◌∙◌, arith, inl, inr, get_or-set_same, get_or-set_other, eqb}
+use Rattle.std.proofs.Common.{◌≡◌, ◌≢◌, ℕ, ◌+◌, ◌*◌, ◌<◌, ◌==◌, Bool, true, false, ℤ, pos, List, length, set, get_or, None, Some, refl, sym, ap, ◌∙◌, arith, inl, inr, get_or-set_same, get_or-set_other}
 use Rattle.std.specs.Prelude.{◌&&◌, nat_lt, if◌then◌else◌}
-use Rattle.std.proofs.lemmas.Bool.{cases_eq, cases_lt, cond-true, cond-false, eq-eqb, ne_eqb, lt-ltb, le-ltb, and_from, and_parts, cases_Bool, true≢false}
+use Rattle.std.proofs.lemmas.Bool.{cases_eq, cases_lt, cond-true, cond-false, eq-eqb, ne_eqb, lt-ltb, le-ltb, and_from, cases_Bool, true≢false}
 use Rattle.std.proofs.lemmas.Nat.{mul-add-lt}
 use Rattle.rcp_model.specs.FrameRows.{FrameRows, AreTables, entry_at, is_down, slot_row, cell_row, act_row, lie_row, lie_slot_row, is_dropped, skew_of, rate_of, delay_of}
 use Rattle.rcp_model.specs.RowWrites.{with_sensor, with_down, with_slot, with_cell, with_act, with_lie_slot, with_drop, with_skew, with_rate, with_delay, with_lie}
-use Rattle.rcp_model.specs.RowLaws.{RowsTold, told_of, at_one, at_pair, at_triple, RowsReadBack}
+use Rattle.rcp_model.specs.RowLaws.{told_of, at_one, at_pair, at_triple, RowsReadBack}
 
 -- one place of a list
 pub read_one : {X : Type 0} (xs : List X) (place : ℕ) (x none : X) (k : ℕ) → place < length xs

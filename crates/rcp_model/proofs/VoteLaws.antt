@@ -1,12 +1,11 @@
 -- What is told of majorities and medians is what their definitions as statements say.
-use Rattle.std.proofs.Common.{◌≡◌, ◌↔◌, ℕ, nat_eq, ℤ, Bool, List, Option, Some, None, Decides, refl, sym, ◌∙◌}
+use Rattle.std.proofs.Common.{◌≡◌, nat_eq, Bool, List, Option, Decides, sym, ◌∙◌}
 use Rattle.std.specs.Ordering.{int_eq}
 use Rattle.std.proofs.lemmas.Bool.Decides.{Decides-eqb, Decides-int_eq}
 use Rattle.std.proofs.lemmas.Option.{none-some}
-use Rattle.rcp_base.specs.Majority.{IsMajority, majority_of}
 use Rattle.rcp_base.proofs.MajorityLaws.{majority_is, majority_none, voted_has_majority}
 use Rattle.rcp_base.proofs.MedianLaws.{median_is, median_tells, median_none, none_median}
-use Rattle.rcp_model.specs.VoteLaws.{TellsMajority, MajoritiesAreTold, TellsMedian, MediansAreTold}
+use Rattle.rcp_model.specs.VoteLaws.{TellsMajority, MajoritiesAreTold, MediansAreTold}
 
 tells_majority : {X : Type 0} (same : X → X → Bool) → ((x y : X) → Decides (same x y) (x ≡ y)) → (places : List (Option X)) → TellsMajority same places
 tells_majority same decides places = record {

@@ -1,16 +1,16 @@
 -- The walks of the graph of two slots and two cells, by the statements: in its first slot the first cell feeds both, and in
 -- the second each cell feeds itself. This project's own.
-use Rattle.std.proofs.Common.{◌≡◌, refl, sym, ◌∙◌, ap, ap₂, subst, ℕ, ◌+◌, ◌-◌, ◌%◌, ◌<◌, ◌≤◌, zero, suc, true, false, eqb, List, [], ◌∷◌, length, inl, inr, arith}
+use Rattle.std.proofs.Common.{◌≡◌, refl, sym, ◌∙◌, ap, ap₂, subst, ℕ, ◌+◌, ◌%◌, ◌<◌, zero, suc, true, List, [], ◌∷◌, length, inl, inr, arith}
 use Rattle.std.proofs.lemmas.Bool.{both_ways, eqb-true, cases_eq}
 use Rattle.rcp_model.specs.declared.node.Node.{Node}
 use Rattle.rcp_model.specs.Node.{IsLeast, IsUpTo, make_node}
-use Rattle.rcp_model.specs.Walk.{Graph, IsUnvoted, StepsTo, at, IsUnvotedWalk, EndsWalk, HasNoWalk, IsUnvotedCycle}
+use Rattle.rcp_model.specs.Walk.{IsUnvoted, StepsTo, at, IsUnvotedWalk, EndsWalk, HasNoWalk}
 use Rattle.rcp_model.specs.Recovery.{IsRecoveryLength}
-use Rattle.rcp_model.specs.Witness.{IsCore, IsBack, IsReached, IsWitnessCycle, IsWitnessWalk}
-use Rattle.rcp_model.proofs.OrderLaws.{up_to_from, up_to_same}
-use Rattle.rcp_model.proofs.LevelLaws.{ends_one, ends_push}
+use Rattle.rcp_model.specs.Witness.{IsWitnessWalk}
+use Rattle.rcp_model.proofs.OrderLaws.{up_to_same}
+use Rattle.rcp_model.proofs.LevelLaws.{ends_one}
 use Rattle.rcp_model.proofs.AlikeLaws.{ends_unvoted}
-use Rattle.rcp_model.proofs.GraphExamples.{node, copies, voting, nothing, one_vote}
+use Rattle.rcp_model.proofs.GraphExamples.{node, copies, voting, one_vote}
 
 -- with one vote, of the first cell in the second slot: the three nodes that are unvoted
 first_copies : IsUnvoted (voting one_vote) (node 0 0)

@@ -1,6 +1,6 @@
 -- A history as a reader counts it: frames from 0, and states by how many frames are done.
 -- That these words and the lists with the newest frame first say the same is a law. This project's own.
-use Rattle.std.specs.Prelude.{ℕ, suc, ◌+◌, ◌*◌, ◌<◌, nat_lt, Bool, ◌||◌, ℤ, pos, [], length, slice_index_or, count_by, Option}
+use Rattle.std.specs.Prelude.{ℕ, suc, ◌+◌, ◌*◌, ◌<◌, nat_lt, Bool, ◌||◌, ℤ, pos, [], slice_index_or, count_by, Option}
 use Rattle.std.specs.List.{range_with_len}
 use Rattle.rcp_base.specs.Search.{all_below}
 use Rattle.rcp_model.specs.declared.plan.PlanParts.{PlanParts}

@@ -1,6 +1,6 @@
 -- The rows of a frame with one row more, and those of the frame that follows. What they then say is the law that each row reads back.
 -- This project's own.
-use Rattle.std.specs.Prelude.{ℕ, ◌+◌, ◌*◌, Bool, true, ℤ, set, Some}
+use Rattle.std.specs.Prelude.{ℕ, ◌+◌, ◌*◌, true, ℤ, set, Some}
 use Rattle.rcp_model.specs.FrameRows.{FrameRows, quiet_rows}
 
 -- the frame that follows: the sensors stay, and all other rows go
