@@ -8,6 +8,3 @@ mod rules;
 
 pub use moments::{arrival, begin, in_window, send, sync, vote};
 pub use rules::{check_timing, delay_limit};
-
-#[cfg(test)]
-mod tests;

@@ -92,8 +92,8 @@ fn clear<T: Copy>(items: &mut Vec<T>, value: T)
     }
 }
 
-/// The rows of the first frame of parts that are not too many.
-pub(crate) fn frame_of(alloc: Global, parts: &PlanParts) -> Result<FrameIn, Memory>
+// The rows of the first frame of parts that are not too many.
+fn frame_of(alloc: Global, parts: &PlanParts) -> Result<FrameIn, Memory>
     requires replicas { parts.now.replicas ≤ 9 }
     requires cells { length parts.now.cells ≤ 64 }
     requires actuators { length parts.now.actuators ≤ 32 }

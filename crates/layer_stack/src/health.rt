@@ -19,9 +19,9 @@ pub fn healthy(plan: &Plan, input: &FrameIn, replica: u32) -> bool
     is_healthy(plan.parts(), input, replica)
 }
 
-/// The same over the parts of a plan, whose bound on drift rates is no less than 0.
+// The same over the parts of a plan, whose bound on drift rates is no less than 0.
 #[tactic(auto, unfolding(rcp_model::specs::Health::is_healthy))]
-pub(crate) fn is_healthy(parts: &PlanParts, input: &FrameIn, replica: u32) -> bool
+fn is_healthy(parts: &PlanParts, input: &FrameIn, replica: u32) -> bool
     requires rows { AreRowsOf parts.now input.now }
     requires replica { replica < parts.now.replicas }
     requires drift { pos 0 ≤ℤ parts.now.timing.drift_ppm }

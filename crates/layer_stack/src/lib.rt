@@ -9,6 +9,3 @@ mod inputs;
 pub use frame_in::FrameIn;
 pub use health::healthy;
 pub use inputs::Inputs;
-
-#[cfg(test)]
-mod tests;

@@ -18,6 +18,3 @@ pub use compiler::{compile, compile_expr};
 pub use instruction::Instruction;
 pub use runner::Runner;
 pub use steps::Steps;
-
-#[cfg(test)]
-mod tests;
