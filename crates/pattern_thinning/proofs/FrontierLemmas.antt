@@ -1,12 +1,12 @@
 -- One word has all cells that are reached in so many steps, and one all from which so many steps lead to a node.
-use Rattle.std.proofs.Common.{◌≡◌, ◌≢◌, Option, Some, None, ℕ, ◌+◌, ◌-◌, ◌*◌, ◌%◌, ◌<◌, ◌≤◌, zero, suc, Bool, true, false, not, ◌&&◌, ltb, slice_index_or, is_some, bit_and, bit_or, inl, inr, sym, ◌∙◌, ap, subst, arith}
+use Rattle.std.proofs.Common.{◌≡◌, Option, Some, None, ℕ, ◌+◌, ◌-◌, ◌%◌, ◌<◌, zero, suc, Bool, true, false, not, ◌&&◌, ltb, is_some, bit_and, bit_or, inl, inr, sym, ◌∙◌, ap, ap₂, subst, arith}
 use Rattle.std.specs.Prelude.{◌||◌}
-use Rattle.std.proofs.lemmas.Bool.{cases_lt, cases_eq, both_ways, and_parts, and_from, and_left, false_from_ne_true, ltb-true, lt-ltb, false≢true}
-use Rattle.std.proofs.Math.Bool.{or-false}
+use Rattle.std.proofs.lemmas.Bool.{cases_lt, cases_eq, both_ways, and_parts, and_from, and_left, false_from_ne_true, lt-ltb, false≢true}
+use Rattle.std.proofs.Math.Bool.{or-false, and_comm}
 use Rattle.std.proofs.Math.Nat.{mod-eq_of_lt, mod_self}
 use Rattle.rcp_base.specs.Bits.{has_bit, WritesBit, IsFirstBit}
 use Rattle.rcp_base.proofs.BitLaws.{has_bit_and, has_bit_or, has_bit_zero}
-use Rattle.rcp_base.proofs.SearchLaws.{any_found, any_of, any_more, none_any}
+use Rattle.rcp_base.proofs.SearchLaws.{any_found, any_of, any_more}
 use Rattle.rcp_model.specs.declared.node.Node.{Node}
 use Rattle.rcp_model.specs.Walk.{Graph, IsUnvoted, StepsTo}
 use Rattle.rcp_model.specs.Levels.{is_unvoted, level}
@@ -15,34 +15,9 @@ use Rattle.rcp_model.proofs.LevelLaws.{is_unvoted_parts, is_unvoted_from, level_
 use Rattle.task_graph.specs.Rows.{Rows, needs_in, AreNeeds}
 use Rattle.vote_pattern.specs.Votes.{Votes, AreUnvoted, is_in}
 use Rattle.recovery_analysis.specs.Graphs.{graph_of, IsOneSize}
-use Rattle.pattern_thinning.specs.inner.Reach.{Reaches, IsFarthest, is_fed, feeds_below, AreThose, AreUnvotedThat}
+use Rattle.pattern_thinning.specs.inner.Reach.{Reaches, IsFarthest, feeds_below, ArePrevious}
+use Rattle.recovery_analysis.specs.Steps.{is_fed, AreNext}
 use Rattle.pattern_thinning.proofs.ReachLemmas.{reaches_first, first_step, source_of, level_of_source}
-
--- a word that fills up: of the numbers below i it has those that pass the test, and it has no other
-pub record IsBelow (i : ℕ) (test : ℕ → Bool) (word : ℕ) : Type 0 where
-  pub those : AreThose i test word
-  pub none : (j : ℕ) → i ≤ j → has_bit word j ≡ false
-
-pub below_none : (test : ℕ → Bool) → IsBelow 0 test 0
-below_none test = record { those = λ j l. absurd (omega arith); none = λ j l. has_bit_zero j }
-
-pub below_set : (i : ℕ) (test : ℕ → Bool) (word new : ℕ) → IsBelow i test word → WritesBit word new i true → test i ≡ true → IsBelow (i + 1) test new
-below_set i test word new b sets t = record {
-  those = λ j l. elim (cases_eq j i) [
-    | inl e ↦ ap (has_bit new) e ∙ sets.here ∙ sym t ∙ ap test (sym e)
-    | inr e ↦ sets.others j e ∙ b.those j (omega arith)
-  ];
-  none = λ j l. let ne : j ≢ i = λ e. omega arith in sets.others j ne ∙ b.none j (omega arith);
-}
-
-pub below_kept : (i : ℕ) (test : ℕ → Bool) (word : ℕ) → IsBelow i test word → test i ≡ false → IsBelow (i + 1) test word
-below_kept i test word b t = record {
-  those = λ j l. elim (cases_eq j i) [
-    | inl e ↦ b.none j (omega arith) ∙ sym t ∙ ap test (sym e)
-    | inr e ↦ b.those j (omega arith)
-  ];
-  none = λ j l. b.none j (omega arith);
-}
 
 -- whether a word has a number
 pub empty_of : (word : ℕ) (found : Option ℕ) → IsFirstBit word found → is_some found ≡ false → (i : ℕ) → has_bit word i ≡ false
@@ -53,61 +28,36 @@ pub some_of : (word : ℕ) (found : Option ℕ) → IsFirstBit word found → is
 some_of word None r e = absurd (false≢true e)
 some_of word (Some i) r e = (i, r.passes)
 
-needs_within : (rows : Rows) (slot cell from : ℕ) → needs_in rows slot cell from ≡ true → from < rows.cells
-unfolding needs_in
-needs_within rows slot cell from h =
-    let bit = has_bit (slice_index_or rows.words (slot * rows.cells + cell) 0) from in
-    let p = and_parts (ltb slot rows.slots && ltb cell rows.cells && ltb from rows.cells) bit h in
-    ltb-true _ _ (and_parts (ltb slot rows.slots && ltb cell rows.cells) (ltb from rows.cells) p.0).1
-
--- the first common number of the word and of a cell's needs says whether the cell is fed
-pub fed_if_common : (rows : Rows) (word slot cell needs : ℕ) (found : Option ℕ) → AreNeeds rows slot cell needs → IsFirstBit (bit_and needs word) found → is_some found ≡ is_fed rows word slot cell
-fed_if_common rows word slot cell needs None are r =
-    sym (none_any rows.cells (λ from. has_bit word from && needs_in rows slot cell from) (λ from l.
-    false_from_ne_true (has_bit word from && needs_in rows slot cell from) (λ t.
-    let p = and_parts (has_bit word from) (needs_in rows slot cell from) t in
-    both_ways (has_bit (bit_and needs word) from) (r from)
-    (has_bit_and needs word from ∙ and_from (has_bit needs from) (has_bit word from) (are from ∙ p.1) p.0))))
-fed_if_common rows word slot cell needs (Some i) are r =
-    let p = and_parts (has_bit needs i) (has_bit word i) (sym (has_bit_and needs word i) ∙ r.passes) in
-    let t : needs_in rows slot cell i ≡ true = sym (are i) ∙ p.0 in
-    sym (any_of rows.cells (λ from. has_bit word from && needs_in rows slot cell from) i (needs_within rows slot cell i t)
-    (and_from (has_bit word i) (needs_in rows slot cell i) p.1 t))
-
 -- one cell more whose needs are added, or that is not in the word
-pub feeds_more : (rows : Rows) (word slot i feeding needs : ℕ) → ((c : ℕ) → has_bit feeding c ≡ feeds_below i rows word slot c) → has_bit word i ≡ true → AreNeeds rows slot i needs
-    → (c : ℕ) → has_bit (bit_or feeding needs) c ≡ feeds_below (i + 1) rows word slot c
-feeds_more rows word slot i feeding needs so_far here are c =
-    has_bit_or feeding needs c
-    ∙ ap (λ (b : Bool). b || has_bit needs c) (so_far c)
-    ∙ ap (λ (b : Bool). feeds_below i rows word slot c || b) (are c ∙ sym (ap (λ (b : Bool). b && needs_in rows slot i c) here))
-    ∙ sym (any_more i (λ to. has_bit word to && needs_in rows slot to c))
-    ∙ ap (λ (k : ℕ). feeds_below k rows word slot c) (let e : suc i ≡ i + 1 = omega arith in e)
+module _ (rows : Rows) (votes : Votes) (word slot i feeding : ℕ) (so_far : (c : ℕ) → has_bit feeding c ≡ feeds_below i (graph_of rows votes) word slot c) where
+  one_more : (c : ℕ) → (feeds_below i (graph_of rows votes) word slot c || (has_bit word i && needs_in rows slot i c)) ≡ feeds_below (i + 1) (graph_of rows votes) word slot c
+  one_more c =
+      sym (any_more i (λ to. has_bit word to && needs_in rows slot to c))
+      ∙ ap (λ (k : ℕ). feeds_below k (graph_of rows votes) word slot c) (let e : suc i ≡ i + 1 = omega arith in e)
 
-pub feeds_no_more : (rows : Rows) (word slot i feeding : ℕ) → ((c : ℕ) → has_bit feeding c ≡ feeds_below i rows word slot c) → has_bit word i ≡ false
-    → (c : ℕ) → has_bit feeding c ≡ feeds_below (i + 1) rows word slot c
-feeds_no_more rows word slot i feeding so_far none c =
-    so_far c
-    ∙ sym (or-false (feeds_below i rows word slot c))
-    ∙ ap (λ (b : Bool). feeds_below i rows word slot c || b) (sym (and_left (has_bit word i) (needs_in rows slot i c) none))
-    ∙ sym (any_more i (λ to. has_bit word to && needs_in rows slot to c))
-    ∙ ap (λ (k : ℕ). feeds_below k rows word slot c) (let e : suc i ≡ i + 1 = omega arith in e)
+  pub feeds_more : (needs : ℕ) → has_bit word i ≡ true → AreNeeds rows slot i needs → (c : ℕ) → has_bit (bit_or feeding needs) c ≡ feeds_below (i + 1) (graph_of rows votes) word slot c
+  feeds_more needs here are c =
+      has_bit_or feeding needs c
+      ∙ ap₂ (λ (a b : Bool). a || b) (so_far c) (are c ∙ sym (ap (λ (b : Bool). b && needs_in rows slot i c) here))
+      ∙ one_more c
 
--- the unvoted cells of a slot that are in another word too
-pub unvoted_that : (rows : Rows) (votes : Votes) (slot : ℕ) (test : ℕ → Bool) (unvoted word : ℕ) → IsOneSize rows votes → slot < rows.slots → AreUnvoted votes slot unvoted → AreThose rows.cells test word
-    → AreUnvotedThat (graph_of rows votes) slot test (bit_and unvoted word)
-unvoted_that rows votes slot test unvoted word size low are those cell =
-    let n = make_node slot cell in
-    let one : has_bit unvoted cell ≡ is_unvoted (graph_of rows votes) n =
-    are cell ∙ ap (λ (k : ℕ). ltb cell k && not (is_in votes slot cell)) (sym size.cells)
-    ∙ sym (ap (λ (b : Bool). b && (ltb cell rows.cells && not (is_in votes slot cell))) (lt-ltb slot rows.slots low)) in
-    has_bit_and unvoted word cell ∙ ap (λ (b : Bool). b && has_bit word cell) one ∙ elim (cases_lt cell rows.cells) [
-      | inl l ↦ ap (λ (b : Bool). is_unvoted (graph_of rows votes) n && b) (those cell l)
-      | inr past ↦
-          let none : is_unvoted (graph_of rows votes) n ≡ false = false_from_ne_true (is_unvoted (graph_of rows votes) n) (λ t.
-          let l : cell < rows.cells = (is_unvoted_parts (graph_of rows votes) n t).cell_in in omega arith) in
-          and_left (is_unvoted (graph_of rows votes) n) (has_bit word cell) none ∙ sym (and_left (is_unvoted (graph_of rows votes) n) (test cell) none)
-    ]
+  pub feeds_no_more : has_bit word i ≡ false → (c : ℕ) → has_bit feeding c ≡ feeds_below (i + 1) (graph_of rows votes) word slot c
+  feeds_no_more none c =
+      so_far c
+      ∙ sym (or-false (feeds_below i (graph_of rows votes) word slot c))
+      ∙ ap (λ (b : Bool). feeds_below i (graph_of rows votes) word slot c || b) (sym (and_left (has_bit word i) (needs_in rows slot i c) none))
+      ∙ one_more c
+
+-- those of them that are unvoted
+pub previous_of : (rows : Rows) (votes : Votes) (word before slot feeding unvoted : ℕ) → IsOneSize rows votes → before < rows.slots → AreUnvoted votes before unvoted
+    → ((c : ℕ) → has_bit feeding c ≡ feeds_below rows.cells (graph_of rows votes) word slot c) → ArePrevious (graph_of rows votes) word before slot (bit_and feeding unvoted)
+previous_of rows votes word before slot feeding unvoted size low are feeds cell =
+    let g = graph_of rows votes in
+    let free = is_unvoted g (make_node before cell) in
+    let one : has_bit unvoted cell ≡ free =
+    are cell ∙ ap (λ (k : ℕ). ltb cell k && not (is_in votes before cell)) (sym size.cells)
+    ∙ sym (ap (λ (b : Bool). b && (ltb cell rows.cells && not (is_in votes before cell))) (lt-ltb before rows.slots low)) in
+    has_bit_and feeding unvoted cell ∙ ap₂ (λ (a b : Bool). a && b) (feeds cell) one ∙ and_comm (feeds_below rows.cells g word slot cell) free
 
 -- the nodes with a property are those of one slot whose cells are in the word
 pub record IsFrontier (P : Node → Type 0) (at_slot word : ℕ) : Type 0 where
@@ -166,13 +116,13 @@ module _ (rows : Rows) (votes : Votes) (x : Node) (u : IsUnvoted (graph_of rows 
   reached_unvoted zero n e = subst (IsUnvoted graph) (sym e) u
   reached_unvoted (suc k) n r = r.3
 
-  pub next_reached : (k slot next old new : ℕ) → IsFrontier (Reaches graph k x) slot old → next ≡ (slot + 1) % rows.slots → AreUnvotedThat graph next (is_fed rows old next) new → IsFrontier (Reaches graph (suc k) x) next new
+  pub next_reached : (k slot next old new : ℕ) → IsFrontier (Reaches graph k x) slot old → next ≡ (slot + 1) % rows.slots → AreNext graph old next new → IsFrontier (Reaches graph (suc k) x) next new
   next_reached k slot next old new w turn are =
       let turns : (n : Node) → Reaches graph (suc k) x n → n.slot ≡ next = λ n r.
       r.2.turn ∙ ap (λ (y : ℕ). (y + 1) % rows.slots) (w.slot r.0 r.1) ∙ sym turn in
       record {
         holds = λ c h.
-            let p = and_parts (is_unvoted graph (make_node next c)) (is_fed rows old next c) (sym (are c) ∙ h) in
+            let p = and_parts (is_unvoted graph (make_node next c)) (is_fed graph old next c) (sym (are c) ∙ h) in
             let f = any_found rows.cells (λ from. has_bit old from && needs_in rows next c from) p.1 in
             let q = and_parts (has_bit old f.v) (needs_in rows next c f.v) f.passes in
             (make_node slot f.v, w.holds f.v q.0, record { turn = turn; feeds = q.1 }, is_unvoted_parts graph (make_node next c) p.0);
@@ -180,7 +130,7 @@ module _ (rows : Rows) (votes : Votes) (x : Node) (u : IsUnvoted (graph_of rows 
         bit = λ n r.
             let e : n ≡ make_node next n.cell = ap (λ (s : ℕ). make_node s n.cell) (turns n r) in
             are n.cell
-            ∙ and_from (is_unvoted graph (make_node next n.cell)) (is_fed rows old next n.cell)
+            ∙ and_from (is_unvoted graph (make_node next n.cell)) (is_fed graph old next n.cell)
             (is_unvoted_from graph (make_node next n.cell) (subst (IsUnvoted graph) e r.3))
             (any_of rows.cells (λ from. has_bit old from && needs_in rows next n.cell from) r.0.cell (reached_unvoted k r.0 r.1).cell_in
             (and_from (has_bit old r.0.cell) (needs_in rows next n.cell r.0.cell) (w.bit r.0 r.1) (subst (StepsTo graph r.0) e r.2).feeds));
@@ -192,7 +142,7 @@ module _ (rows : Rows) (votes : Votes) (x : Node) (u : IsUnvoted (graph_of rows 
     pub frontier : IsFrontier (Reaches graph k x) slot word
     pub some : (last : Node) × Reaches graph k x last
 
-  pub reached_more : (k slot next old new : ℕ) (found : Option ℕ) → IsReachedBy k slot old → next < rows.slots → next ≡ (slot + 1) % rows.slots → AreUnvotedThat graph next (is_fed rows old next) new
+  pub reached_more : (k slot next old new : ℕ) (found : Option ℕ) → IsReachedBy k slot old → next < rows.slots → next ≡ (slot + 1) % rows.slots → AreNext graph old next new
       → IsFirstBit new found → is_some found ≡ true → IsReachedBy (k + 1) next new
   reached_more k slot next old new found before low turn are first there =
       let w = next_reached k slot next old new before.frontier turn are in
@@ -200,7 +150,7 @@ module _ (rows : Rows) (votes : Votes) (x : Node) (u : IsUnvoted (graph_of rows 
       subst (λ (i : ℕ). IsReachedBy i next new) (let one : suc k ≡ k + 1 = omega arith in one)
       (record { low = low; frontier = w; some = (make_node next bit.0, w.holds bit.0 bit.1) })
 
-  pub reached_no_more : (most k slot next old new : ℕ) (found : Option ℕ) → k < most → IsReachedBy k slot old → next ≡ (slot + 1) % rows.slots → AreUnvotedThat graph next (is_fed rows old next) new
+  pub reached_no_more : (most k slot next old new : ℕ) (found : Option ℕ) → k < most → IsReachedBy k slot old → next ≡ (slot + 1) % rows.slots → AreNext graph old next new
       → IsFirstBit new found → is_some found ≡ false → IsFarthest graph x most k
   reached_no_more most k slot next old new found less before turn are first none = record {
     within = omega arith;
@@ -209,14 +159,14 @@ module _ (rows : Rows) (votes : Votes) (x : Node) (u : IsUnvoted (graph_of rows 
   }
 
   pub before_here : (k slot before old new : ℕ) → IsFrontier (LeadsHere k) slot old → before < rows.slots → slot ≡ (before + 1) % rows.slots
-      → AreUnvotedThat graph before (feeds_below rows.cells rows old slot) new → IsFrontier (LeadsHere (suc k)) before new
+      → ArePrevious graph old before slot new → IsFrontier (LeadsHere (suc k)) before new
   before_here k slot before old new w low turn are =
       let turns : (m : Node) → LeadsHere (suc k) m → m.slot ≡ before = λ m p.
       let f = first_step graph k m x p.1 in
       same_turn m.slot before rows.slots p.0.slot_in low (sym f.steps.turn ∙ w.slot f.n (f.unvoted, f.reached) ∙ turn) in
       record {
         holds = λ c h.
-            let p = and_parts (is_unvoted graph (make_node before c)) (feeds_below rows.cells rows old slot c) (sym (are c) ∙ h) in
+            let p = and_parts (is_unvoted graph (make_node before c)) (feeds_below rows.cells graph old slot c) (sym (are c) ∙ h) in
             let f = any_found rows.cells (λ to. has_bit old to && needs_in rows slot to c) p.1 in
             let q = and_parts (has_bit old f.v) (needs_in rows slot f.v c) f.passes in
             let next = w.holds f.v q.0 in (
@@ -231,7 +181,7 @@ module _ (rows : Rows) (votes : Votes) (x : Node) (u : IsUnvoted (graph_of rows 
             let e : n ≡ make_node slot n.cell = ap (λ (s : ℕ). make_node s n.cell) at_slot in
             let d : m ≡ make_node before m.cell = ap (λ (s : ℕ). make_node s m.cell) (turns m p) in
             are m.cell
-            ∙ and_from (is_unvoted graph (make_node before m.cell)) (feeds_below rows.cells rows old slot m.cell)
+            ∙ and_from (is_unvoted graph (make_node before m.cell)) (feeds_below rows.cells graph old slot m.cell)
             (is_unvoted_from graph (make_node before m.cell) (subst (IsUnvoted graph) d p.0))
             (any_of rows.cells (λ to. has_bit old to && needs_in rows slot to m.cell) n.cell f.unvoted.cell_in
             (and_from (has_bit old n.cell) (needs_in rows slot n.cell m.cell) (w.bit n (f.unvoted, f.reached)) (subst (StepsTo graph m) e f.steps).feeds));
@@ -244,7 +194,7 @@ module _ (rows : Rows) (votes : Votes) (x : Node) (u : IsUnvoted (graph_of rows 
     pub some : (m : Node) × IsUnvoted graph m × Reaches graph k m x
 
   pub led_more : (k slot before old new : ℕ) (found : Option ℕ) → IsLedBy k slot old → before < rows.slots → slot ≡ (before + 1) % rows.slots
-      → AreUnvotedThat graph before (feeds_below rows.cells rows old slot) new → IsFirstBit new found → is_some found ≡ true → IsLedBy (k + 1) before new
+      → ArePrevious graph old before slot new → IsFirstBit new found → is_some found ≡ true → IsLedBy (k + 1) before new
   led_more k slot before old new found led low turn are first there =
       let w = before_here k slot before old new led.frontier low turn are in
       let bit = some_of new found first there in
@@ -254,7 +204,7 @@ module _ (rows : Rows) (votes : Votes) (x : Node) (u : IsUnvoted (graph_of rows 
 
   -- where no node leads here by so many steps, no walk of as many or more ends here
   pub led_no_more : (steps k slot before old new : ℕ) (found : Option ℕ) → k < steps → IsLedBy k slot old → before < rows.slots → slot ≡ (before + 1) % rows.slots
-      → AreUnvotedThat graph before (feeds_below rows.cells rows old slot) new → IsFirstBit new found → is_some found ≡ false → level graph steps x ≡ false
+      → ArePrevious graph old before slot new → IsFirstBit new found → is_some found ≡ false → level graph steps x ≡ false
   led_no_more steps k slot before old new found less led low turn are first none =
       let w = before_here k slot before old new led.frontier low turn are in
       false_from_ne_true (level graph steps x) (λ t.

@@ -66,25 +66,25 @@ again_level g x u c (suc t) =
     (subst (λ (i : ℕ). level g i x ≡ true) (let e : c.0 + t ≡ (c.0 - 1) + suc t = omega arith in e) (level_on g t c.0 x x (again_level g x u c t) c.2))
 
 pub back_is_on_walk : (g : Graph) (x : Node) (steps : ℕ) → IsUnvoted g x → ComesBack g x → IsOnWalk g steps x
-back_is_on_walk g x steps u c = record { these = steps; those = 0; all = omega arith; ends = again_level g x u c steps; last = x; leads = refl }
+back_is_on_walk g x steps u c = record { into = steps; onward = 0; all = omega arith; ends = again_level g x u c steps; last = x; leads = refl }
 
 -- the longest walk on says how long a walk to the node must be
 pub far_is_on_walk : (g : Graph) (x : Node) (steps on : ℕ) → IsFarthest g x steps on → level g (steps - on) x ≡ true → IsOnWalk g steps x
 far_is_on_walk g x steps on f l =
     let within : on ≤ steps = f.within in
-    record { these = steps - on; those = on; all = omega arith; ends = l; last = f.reached.0; leads = f.reached.1 }
+    record { into = steps - on; onward = on; all = omega arith; ends = l; last = f.reached.0; leads = f.reached.1 }
 
 pub on_walk_is_far : (g : Graph) (x : Node) (steps on : ℕ) → IsFarthest g x steps on → IsOnWalk g steps x → level g (steps - on) x ≡ true
 on_walk_is_far g x steps on f w =
     let within : on ≤ steps = f.within in
-    let all : w.these + w.those ≡ steps = w.all in
-    elim (cases_lt on w.those) [
+    let all : w.into + w.onward ≡ steps = w.all in
+    elim (cases_lt on w.onward) [
       | inl more ↦
-          let r = reaches_fewer g (suc on) (w.those - suc on) x w.last (subst (λ (i : ℕ). Reaches g i x w.last) (let e : w.those ≡ (w.those - suc on) + suc on = omega arith in e) w.leads) in
+          let r = reaches_fewer g (suc on) (w.onward - suc on) x w.last (subst (λ (i : ℕ). Reaches g i x w.last) (let e : w.onward ≡ (w.onward - suc on) + suc on = omega arith in e) w.leads) in
           absurd (f.ends (omega arith) r.0 r.1)
       | inr enough ↦
-          level_down g (steps - on) (on - w.those) x
-          (subst (λ (i : ℕ). level g i x ≡ true) (let e : w.these ≡ (on - w.those) + (steps - on) = omega arith in e) w.ends)
+          level_down g (steps - on) (on - w.onward) x
+          (subst (λ (i : ℕ). level g i x ≡ true) (let e : w.into ≡ (on - w.onward) + (steps - on) = omega arith in e) w.ends)
     ]
 
 -- where the other graph leaves but one node more unvoted, a walk of its own passes through that node
@@ -93,14 +93,14 @@ HasOtherVotes g h x = (n : Node) → n ≢ x → h.votes n.slot n.cell ≡ false
 
 -- a walk to the node that passes through the other
 record Through (g : Graph) (x : Node) (k : ℕ) (n : Node) : Type 0 where
-  these : ℕ
-  those : ℕ
-  all : these + those ≡ k
-  ends : level g these x ≡ true
-  leads : Reaches g those x n
+  into : ℕ
+  onward : ℕ
+  all : into + onward ≡ k
+  ends : level g into x ≡ true
+  leads : Reaches g onward x n
 
 through_here : (h : Graph) (x : Node) (k : ℕ) (n : Node) → level h k n ≡ true → n ≡ x → Through h x k n
-through_here h x k n l e = record { these = k; those = 0; all = omega arith; ends = ap (level h k) (sym e) ∙ l; leads = e }
+through_here h x k n l e = record { into = k; onward = 0; all = omega arith; ends = ap (level h k) (sym e) ∙ l; leads = e }
 
 kept_or_through : (g h : Graph) (x : Node) → IsAlike h g → HasOtherVotes g h x → (k : ℕ) (n : Node) → level h k n ≡ true → (level g k n ≡ true) ⊎ Through h x k n
 kept_or_through g h x a others zero n l = elim (cases_Bool (eqb n.slot x.slot && eqb n.cell x.cell)) [
@@ -116,9 +116,9 @@ kept_or_through g h x a others (suc k) n l = elim (cases_Bool (eqb n.slot x.slot
         | inl kept ↦ inl (level_step g k b.m n kept (steps_alike h g a b.m n (level_unvoted h k b.m b.level) u b.steps)
             (unvoted_alike h g a n u (others n (other_node n x is_not) u.unvoted)))
         | inr t ↦ inr (record {
-          these = t.these;
-          those = suc t.those;
-          all = let e : t.these + t.those ≡ k = t.all in omega arith;
+          into = t.into;
+          onward = suc t.onward;
+          all = let e : t.into + t.onward ≡ k = t.all in omega arith;
           ends = t.ends;
           leads = (b.m, t.leads, b.steps, u);
         })
@@ -130,10 +130,10 @@ new_walk_is_through g h x k a others none some =
     let f = any_found (node_count h) (λ v. level h k (node_of h v)) some in
     elim (kept_or_through g h x a others k (node_of h f.v) f.passes) [
       | inl kept ↦ absurd (both_ways (has_level_node g k) none (level_found g k (node_of h f.v) kept))
-      | inr t ↦ record { these = t.these; those = t.those; all = t.all; ends = t.ends; last = node_of h f.v; leads = t.leads }
+      | inr t ↦ record { into = t.into; onward = t.onward; all = t.all; ends = t.ends; last = node_of h f.v; leads = t.leads }
     ]
 
 pub walk_through : (h : Graph) (x : Node) (k : ℕ) → IsOnWalk h k x → has_level_node h k ≡ true
 walk_through h x k w =
-    let all : w.these + w.those ≡ k = w.all in
-    level_found h k w.last (subst (λ (i : ℕ). level h i w.last ≡ true) (let e : w.those + w.these ≡ k = omega arith in e) (level_on h w.these w.those x w.last w.ends w.leads))
+    let all : w.into + w.onward ≡ k = w.all in
+    level_found h k w.last (subst (λ (i : ℕ). level h i w.last ≡ true) (let e : w.onward + w.into ≡ k = omega arith in e) (level_on h w.into w.onward x w.last w.ends w.leads))

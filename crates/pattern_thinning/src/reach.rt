@@ -5,11 +5,11 @@ ghost use Rattle.std.specs.Prelude.{◌≡◌, ◌↔◌, ℕ, ◌+◌, ◌%◌,
 ghost use Rattle.rcp_model.specs.Levels.{level};
 ghost use Rattle.rcp_model.specs.Walk.{IsUnvoted};
 ghost use Rattle.recovery_analysis.specs.Graphs.{graph_of, IsOneSize};
-ghost use Rattle.pattern_thinning.specs.inner.Reach.{AreThose, AreUnvotedThat, ComesBack, IsFarthest, IsOnWalk, feeds_below};
-ghost use Rattle.pattern_thinning.specs.inner.Reach as spec;
+ghost use Rattle.pattern_thinning.specs.inner.Reach.{ArePrevious, ComesBack, IsFarthest, IsOnWalk};
 
 use rcp_base::bits;
 use rcp_model::Node;
+use recovery_analysis::next_word;
 use task_graph::DepRows;
 use vote_pattern::Pattern;
 
@@ -36,65 +36,20 @@ fn slot_before(rows: &DepRows, slot: u32) -> u32
     }
 }
 
-// Whether a cell of the word feeds the cell in the slot.
-fn is_fed(rows: &DepRows, word: u64, slot: u32, cell: u32) -> bool
-    requires slot { slot < rows.now.slots }
-    requires cell { cell < rows.now.cells }
-    ensures { result ≡ spec.is_fed rows.now word slot cell }
-{
-    let found = bits::first_bit(rows.word(slot, cell) & word);
-    found.is_some()
-}
-
-// The cells that a cell of the word feeds in the slot, as bits.
-fn fed_word(rows: &DepRows, word: u64, slot: u32) -> u64
-    requires slot { slot < rows.now.slots }
-    ensures { AreThose rows.now.cells (spec.is_fed rows.now word slot) result }
-{
-    let cells = rows.cells();
-    let mut fed = 0;
-    for cell in 0..cells {
-        if is_fed(rows, word, slot, cell) {
-            fed = bits::with_bit(fed, cell);
-        }
-    }
-    fed
-}
-
-// The cells that feed a cell of the word in the slot, as bits.
-fn feeding_word(rows: &DepRows, word: u64, slot: u32) -> u64
-    requires slot { slot < rows.now.slots }
-    ensures { AreThose rows.now.cells (feeds_below rows.now.cells rows.now word slot) result }
-{
-    let cells = rows.cells();
-    let mut feeding = 0;
-    for cell in 0..cells {
-        if bits::has_bit(word, cell) {
-            feeding |= rows.word(slot, cell);
-        }
-    }
-    feeding
-}
-
-// The unvoted cells of the slot that a cell of the word feeds there.
-fn next_word(rows: &DepRows, pattern: &Pattern, word: u64, slot: u32) -> u64
-    requires size { IsOneSize rows.now pattern.now }
-    requires slot { slot < rows.now.slots }
-    ensures { let fed = spec.is_fed rows.now word slot in
-        AreUnvotedThat (graph_of rows.now pattern.now) slot fed result }
-{
-    pattern.unvoted(slot) & fed_word(rows, word, slot)
-}
-
-// The unvoted cells of the slot before that feed a cell of the word in the slot.
+// The unvoted cells of the slot before that feed a cell of the word in the slot, as bits.
 fn previous_word(rows: &DepRows, pattern: &Pattern, word: u64, before: u32, slot: u32) -> u64
     requires size { IsOneSize rows.now pattern.now }
     requires before { before < rows.now.slots }
     requires slot { slot < rows.now.slots }
-    ensures { let feeds = feeds_below rows.now.cells rows.now word slot in
-        AreUnvotedThat (graph_of rows.now pattern.now) before feeds result }
+    ensures { ArePrevious (graph_of rows.now pattern.now) word before slot result }
 {
-    pattern.unvoted(before) & feeding_word(rows, word, slot)
+    let mut feeding = 0;
+    for cell in 0..rows.cells() {
+        if bits::has_bit(word, cell) {
+            feeding |= rows.word(slot, cell);
+        }
+    }
+    feeding & pattern.unvoted(before)
 }
 
 // How many steps a longest walk on from the node has, of those that have no more than the most; none where steps lead back to it.

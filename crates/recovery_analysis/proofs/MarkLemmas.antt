@@ -20,7 +20,7 @@ use Rattle.rcp_model.proofs.WalkLaws.{goes_some}
 use Rattle.vote_pattern.specs.Votes.{Votes, AreUnvoted}
 use Rattle.task_graph.specs.Rows.{Rows}
 use Rattle.recovery_analysis.specs.Graphs.{graph_of, IsOneSize}
-use Rattle.recovery_analysis.specs.inner.Steps.{is_fed, is_next, AreNext}
+use Rattle.recovery_analysis.specs.Steps.{is_fed, is_next, AreNext}
 use Rattle.recovery_analysis.specs.inner.Levels.{Levels, graph_in, slot_before, enters, IsLevel, IsLevelAfter, IsLeastAt}
 use Rattle.recovery_analysis.specs.inner.LevelFields.{AreLevels}
 use Rattle.recovery_analysis.proofs.StepLemmas.{unvoted_bits}

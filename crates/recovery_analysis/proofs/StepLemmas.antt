@@ -12,7 +12,7 @@ use Rattle.rcp_model.specs.Levels.{is_unvoted}
 use Rattle.task_graph.specs.Rows.{Rows, needs_in, AreNeeds}
 use Rattle.vote_pattern.specs.Votes.{Votes, is_in, AreUnvoted}
 use Rattle.recovery_analysis.specs.Graphs.{graph_of, IsOneSize}
-use Rattle.recovery_analysis.specs.inner.Steps.{is_fed, AreNext}
+use Rattle.recovery_analysis.specs.Steps.{is_fed, AreNext}
 
 -- no cell past the last is needed
 pub needed_in : (rows : Rows) (slot cell from : ℕ) → needs_in rows slot cell from ≡ true → from < rows.cells

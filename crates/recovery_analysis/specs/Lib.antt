@@ -1,4 +1,5 @@
 pub mod Graphs
+pub mod Steps
 pub mod Verdict
 pub mod Laws
 pub mod inner

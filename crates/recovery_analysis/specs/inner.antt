@@ -1,4 +1,3 @@
 -- Words of private functions, which no promise cites. This project's own.
-pub mod Steps
 pub mod Levels
 pub mod LevelFields

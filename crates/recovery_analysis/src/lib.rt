@@ -9,4 +9,5 @@ mod steps;
 mod verdict;
 mod walks;
 
+pub use steps::next_word;
 pub use verdict::{Verdict, analyse, within};

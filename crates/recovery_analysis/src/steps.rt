@@ -3,7 +3,7 @@
 ghost use Rattle.std.specs.Prelude.{◌≡◌, ◌<◌};
 ghost use Rattle.rcp_base.specs.declared.TheConstants.{MAX_SLOTS};
 ghost use Rattle.recovery_analysis.specs.Graphs.{graph_of, IsOneSize};
-ghost use Rattle.recovery_analysis.specs.inner.Steps.{AreNext};
+ghost use Rattle.recovery_analysis.specs.Steps.{AreNext};
 ghost use Rattle.recovery_analysis.specs.inner.Levels as spec;
 
 use rcp_base::bits;

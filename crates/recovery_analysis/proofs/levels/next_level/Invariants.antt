@@ -1,7 +1,7 @@
 use Rattle.std.proofs.Common.{◌≡◌, ◌<◌, ℕ, length, get_or}
 use Rattle.rcp_base.specs.declared.TheConstants.{MAX_SLOTS}
 use Rattle.recovery_analysis.specs.Graphs.{graph_of}
-use Rattle.recovery_analysis.specs.inner.Steps.{AreNext}
+use Rattle.recovery_analysis.specs.Steps.{AreNext}
 use Rattle.recovery_analysis.specs.inner.Levels.{slot_before}
 use Rattle.recovery_analysis.proofs.levels.next_level.Given as goal
 

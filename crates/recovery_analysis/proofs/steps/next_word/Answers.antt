@@ -1,6 +1,6 @@
 use Rattle.std.proofs.Common.{◌+◌, ℕ, Bool, sym, ◌∙◌, subst, arith}
 use Rattle.recovery_analysis.specs.Graphs.{graph_of}
-use Rattle.recovery_analysis.specs.inner.Steps.{is_fed}
+use Rattle.recovery_analysis.specs.Steps.{is_fed}
 use Rattle.recovery_analysis.proofs.StepLemmas.{ArePassing, fed_if_common, none_passing, one_put_in, one_left_out, fed_and_unvoted}
 use Rattle.recovery_analysis.proofs.steps.next_word.Goals.{then-is_some, else-is_some}
 use Rattle.recovery_analysis.proofs.steps.next_word.Goals as goal

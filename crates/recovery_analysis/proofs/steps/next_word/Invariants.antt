@@ -1,5 +1,5 @@
 use Rattle.recovery_analysis.specs.Graphs.{graph_of}
-use Rattle.recovery_analysis.specs.inner.Steps.{is_fed}
+use Rattle.recovery_analysis.specs.Steps.{is_fed}
 use Rattle.recovery_analysis.proofs.StepLemmas.{ArePassing}
 use Rattle.recovery_analysis.proofs.steps.next_word.Given as goal
 
