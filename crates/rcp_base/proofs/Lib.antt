@@ -11,3 +11,4 @@ pub mod CountLaws
 pub mod MajorityLaws
 pub mod MedianLaws
 pub mod ReaderLaws
+pub mod StepLaws

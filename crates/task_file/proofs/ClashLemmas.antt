@@ -1,16 +1,16 @@
 -- The cells that tasks set, and the first clash of slots.
-use Rattle.std.proofs.Common.{◌≡◌, ◌⊎◌, inl, inr, ℕ, zero, suc, ◌+◌, ◌<◌, ◌≤◌, List, [], ◌∷◌, ◌++◌, length, get_or, take, drop, Bool, true, false, ◌||◌, if◌then◌else◌, Option, Some, None, Ok, Err, refl, ap, sym, ◌∙◌, arith}
 use Rattle.std.specs.List.{list_any}
+use Rattle.std.proofs.Common.{◌≡◌, ◌⊎◌, inl, inr, ℕ, zero, suc, ◌+◌, ◌<◌, ◌≤◌, List, [], ◌∷◌, ◌++◌, length, get_or, take, drop, Bool, true, false, ◌||◌, if◌then◌else◌, Option, Some, None, Ok, Err, refl, ap, sym, ◌∙◌, arith}
 use Rattle.std.proofs.lemmas.List.{drop_more, take_more}
+use Rattle.rcp_base.specs.Answers.{has_number, unless_fault, first_fault, IsFaultOr}
+use Rattle.rcp_base.proofs.ReaderLaws.{fault_along}
 use Rattle.rcp_model.specs.declared.plan.SlotRow.{SlotRow}
 use Rattle.rcp_model.specs.declared.task.SetRow.{SetRow}
 use Rattle.rcp_model.specs.declared.task.Task.{Task}
+use Rattle.task_file.specs.Fault.{is_file_memory}
 use Rattle.task_file.specs.declared.fault.FileFault.{FileFault}
+use Rattle.task_file.specs.Slots.{slot_clash, cells_set, cells_of_number, task_clash_from, vote_clash_from, clash_from}
 use Rattle.task_file.specs.declared.path.Key.TheVariants as key
-use Rattle.task_file.specs.SlotRows.{clash}
-use Rattle.task_file.specs.Slots.{has_number, cells_set, cells_of_number, task_clash_from, vote_clash_from, clash_from}
-use Rattle.task_file.specs.Verdict.{none_of, or_else, IsFault}
-use Rattle.task_file.proofs.FaultLemmas.{fault_along}
 
 pub any_set : (set : List ℕ) (rows : List SetRow) → list_any (λ row. has_number set row.cell) rows ≡ list_any (has_number set) (cells_set rows)
 any_set set [] = refl
@@ -26,25 +26,25 @@ no_cells_past [] number past = refl
 no_cells_past (task ∷ tasks) zero past = absurd (omega arith)
 no_cells_past (task ∷ tasks) (suc number) past = no_cells_past tasks number (omega arith)
 
-no_fault : (a b : Option FileFault) → none_of a ≡ Ok [] → or_else a b ≡ b
+no_fault : (a b : Option FileFault) → unless_fault a ≡ Ok [] → first_fault a b ≡ b
 no_fault None b is = refl
 no_fault (Some fault) b is = cc
 
-first_fault : (a b : Option FileFault) (fault : FileFault) → IsFault fault (none_of a) → IsFault fault (none_of (or_else a b))
-first_fault None b fault is = fault_along fault (none_of None) (none_of b) is (λ err. cc)
-first_fault (Some f) b fault is = is
+first_told : (a b : Option FileFault) (fault : FileFault) → IsFaultOr (is_file_memory fault) fault (unless_fault a) → IsFaultOr (is_file_memory fault) fault (unless_fault (first_fault a b))
+first_told None b fault is = fault_along (is_file_memory fault) fault (unless_fault None) (unless_fault b) is (λ err. cc)
+first_told (Some f) b fault is = is
 
 -- the clashes of the slots from number i on
 slots_left : (tasks : List Task) (slots : List SlotRow) (i : ℕ) (row : SlotRow) → i < length slots → row ≡ get_or slots i row
     → clash_from tasks i (drop i slots)
-    ≡ or_else (task_clash_from tasks i [] [] 0 row.tasks) (or_else (vote_clash_from i [] 0 row.votes) (clash_from tasks (i + 1) (drop (i + 1) slots)))
+    ≡ first_fault (task_clash_from tasks i [] [] 0 row.tasks) (first_fault (vote_clash_from i [] 0 row.votes) (clash_from tasks (i + 1) (drop (i + 1) slots)))
 slots_left tasks slots i row within is =
     ap (clash_from tasks i) (drop_more slots i row within ∙ ap (λ r. r ∷ drop (i + 1) slots) (sym is))
 
 pub slot_passed :
     (tasks : List Task) (slots : List SlotRow) (i : ℕ) (row : SlotRow) → i < length slots → row ≡ get_or slots i row →
     clash_from tasks 0 slots ≡ clash_from tasks i (drop i slots) →
-    none_of (task_clash_from tasks i [] [] 0 row.tasks) ≡ Ok [] → none_of (vote_clash_from i [] 0 row.votes) ≡ Ok [] →
+    unless_fault (task_clash_from tasks i [] [] 0 row.tasks) ≡ Ok [] → unless_fault (vote_clash_from i [] 0 row.votes) ≡ Ok [] →
     clash_from tasks 0 slots ≡ clash_from tasks (i + 1) (drop (i + 1) slots)
 slot_passed tasks slots i row within is left runs votes =
     left ∙ (slots_left tasks slots i row within is
@@ -53,21 +53,21 @@ slot_passed tasks slots i row within is left runs votes =
 pub runs_clash :
     (tasks : List Task) (slots : List SlotRow) (i : ℕ) (row : SlotRow) (fault : FileFault) → i < length slots → row ≡ get_or slots i row →
     clash_from tasks 0 slots ≡ clash_from tasks i (drop i slots) →
-    IsFault fault (none_of (task_clash_from tasks i [] [] 0 row.tasks)) →
-    IsFault fault (none_of (clash_from tasks 0 slots))
+    IsFaultOr (is_file_memory fault) fault (unless_fault (task_clash_from tasks i [] [] 0 row.tasks)) →
+    IsFaultOr (is_file_memory fault) fault (unless_fault (clash_from tasks 0 slots))
 runs_clash tasks slots i row fault within is left runs =
-    let later = or_else (vote_clash_from i [] 0 row.votes) (clash_from tasks (i + 1) (drop (i + 1) slots)) in
-    rw (left ∙ slots_left tasks slots i row within is) (first_fault (task_clash_from tasks i [] [] 0 row.tasks) later fault runs)
+    let later = first_fault (vote_clash_from i [] 0 row.votes) (clash_from tasks (i + 1) (drop (i + 1) slots)) in
+    rw (left ∙ slots_left tasks slots i row within is) (first_told (task_clash_from tasks i [] [] 0 row.tasks) later fault runs)
 
 pub votes_clash :
     (tasks : List Task) (slots : List SlotRow) (i : ℕ) (row : SlotRow) (fault : FileFault) → i < length slots → row ≡ get_or slots i row →
     clash_from tasks 0 slots ≡ clash_from tasks i (drop i slots) →
-    none_of (task_clash_from tasks i [] [] 0 row.tasks) ≡ Ok [] → IsFault fault (none_of (vote_clash_from i [] 0 row.votes)) →
-    IsFault fault (none_of (clash_from tasks 0 slots))
+    unless_fault (task_clash_from tasks i [] [] 0 row.tasks) ≡ Ok [] → IsFaultOr (is_file_memory fault) fault (unless_fault (vote_clash_from i [] 0 row.votes)) →
+    IsFaultOr (is_file_memory fault) fault (unless_fault (clash_from tasks 0 slots))
 votes_clash tasks slots i row fault within is left runs votes =
     let later = clash_from tasks (i + 1) (drop (i + 1) slots) in
     rw (left ∙ (slots_left tasks slots i row within is ∙ no_fault (task_clash_from tasks i [] [] 0 row.tasks) _ runs))
-    (first_fault (vote_clash_from i [] 0 row.votes) later fault votes)
+    (first_told (vote_clash_from i [] 0 row.votes) later fault votes)
 
 either : (a b : Bool) → b ≡ true → (a || b) ≡ true
 either true b is = refl
@@ -83,7 +83,7 @@ cells_again tasks set number rows cells = ap (list_any (has_number set)) (sym ce
 -- the clashes of a slot's tasks from entry j on
 tasks_left : (tasks : List Task) (i : ℕ) (set : List ℕ) (j : ℕ) (numbers : List ℕ) → j < length numbers
     → task_clash_from tasks i (take j numbers) set j (drop j numbers)
-    ≡ (if has_number (take j numbers) (get_or numbers j 0) || list_any (has_number set) (cells_of_number tasks (get_or numbers j 0)) then Some (clash i key.Tasks j)
+    ≡ (if has_number (take j numbers) (get_or numbers j 0) || list_any (has_number set) (cells_of_number tasks (get_or numbers j 0)) then Some (slot_clash i key.Tasks j)
     else task_clash_from tasks i (take j numbers ++ get_or numbers j 0 ∷ []) (set ++ cells_of_number tasks (get_or numbers j 0)) (j + 1) (drop (j + 1) numbers))
 tasks_left tasks i set j numbers within = ap (task_clash_from tasks i (take j numbers) set j) (drop_more numbers j 0 within)
 
@@ -92,20 +92,20 @@ pub task_clashes :
     task_clash_from tasks i [] [] 0 numbers ≡ task_clash_from tasks i (take j numbers) set j (drop j numbers) →
     cells_set rows ≡ cells_of_number tasks (get_or numbers j 0) →
     (has_number (take j numbers) (get_or numbers j 0) ≡ true) ⊎ (list_any (λ row. has_number set row.cell) rows ≡ true) →
-    none_of (task_clash_from tasks i [] [] 0 numbers) ≡ Err (clash i key.Tasks j)
+    unless_fault (task_clash_from tasks i [] [] 0 numbers) ≡ Err (slot_clash i key.Tasks j)
 task_clashes tasks i set j numbers rows within left cells (inl twice) =
     let clashes : (has_number (take j numbers) (get_or numbers j 0) || list_any (has_number set) (cells_of_number tasks (get_or numbers j 0))) ≡ true =
     ap (λ v. v || list_any (has_number set) (cells_of_number tasks (get_or numbers j 0))) twice
     in
-    ap none_of (left ∙ (tasks_left tasks i set j numbers within
-    ∙ ap (λ v. if v then Some (clash i key.Tasks j) else task_clash_from tasks i (take j numbers ++ get_or numbers j 0 ∷ []) (set ++ cells_of_number tasks (get_or numbers j 0)) (j + 1) (drop (j + 1) numbers)) clashes))
+    ap unless_fault (left ∙ (tasks_left tasks i set j numbers within
+    ∙ ap (λ v. if v then Some (slot_clash i key.Tasks j) else task_clash_from tasks i (take j numbers ++ get_or numbers j 0 ∷ []) (set ++ cells_of_number tasks (get_or numbers j 0)) (j + 1) (drop (j + 1) numbers)) clashes))
 task_clashes tasks i set j numbers rows within left cells (inr again) =
     let clashes : (has_number (take j numbers) (get_or numbers j 0) || list_any (has_number set) (cells_of_number tasks (get_or numbers j 0))) ≡ true =
     either (has_number (take j numbers) (get_or numbers j 0)) (list_any (has_number set) (cells_of_number tasks (get_or numbers j 0)))
     (cells_again tasks set (get_or numbers j 0) rows cells ∙ again)
     in
-    ap none_of (left ∙ (tasks_left tasks i set j numbers within
-    ∙ ap (λ v. if v then Some (clash i key.Tasks j) else task_clash_from tasks i (take j numbers ++ get_or numbers j 0 ∷ []) (set ++ cells_of_number tasks (get_or numbers j 0)) (j + 1) (drop (j + 1) numbers)) clashes))
+    ap unless_fault (left ∙ (tasks_left tasks i set j numbers within
+    ∙ ap (λ v. if v then Some (slot_clash i key.Tasks j) else task_clash_from tasks i (take j numbers ++ get_or numbers j 0 ∷ []) (set ++ cells_of_number tasks (get_or numbers j 0)) (j + 1) (drop (j + 1) numbers)) clashes))
 
 pub task_passes :
     (tasks : List Task) (i : ℕ) (set : List ℕ) (j : ℕ) (numbers : List ℕ) (rows : List SetRow) → j < length numbers →
@@ -119,6 +119,6 @@ task_passes tasks i set j numbers rows within left cells once apart =
     (cells_again tasks set (get_or numbers j 0) rows cells ∙ apart)
     in
     left ∙ (tasks_left tasks i set j numbers within
-    ∙ (ap (λ v. if v then Some (clash i key.Tasks j) else task_clash_from tasks i (take j numbers ++ get_or numbers j 0 ∷ []) (set ++ cells_of_number tasks (get_or numbers j 0)) (j + 1) (drop (j + 1) numbers)) passes
+    ∙ (ap (λ v. if v then Some (slot_clash i key.Tasks j) else task_clash_from tasks i (take j numbers ++ get_or numbers j 0 ∷ []) (set ++ cells_of_number tasks (get_or numbers j 0)) (j + 1) (drop (j + 1) numbers)) passes
     ∙ (ap (λ seen. task_clash_from tasks i seen (set ++ cells_of_number tasks (get_or numbers j 0)) (j + 1) (drop (j + 1) numbers)) (sym (take_more numbers j 0 within))
     ∙ ap (λ c. task_clash_from tasks i (take (j + 1) numbers) (set ++ c) (j + 1) (drop (j + 1) numbers)) (sym cells))))

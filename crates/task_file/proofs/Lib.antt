@@ -1,15 +1,12 @@
 mod DocumentLemmas
-mod FaultLemmas
-mod EachLemmas
 mod LimitLemmas
-mod ItemLemmas
 mod NameEntryLemmas
 mod NameLemmas
 mod TextLemmas
 mod ClashLemmas
 mod VariableLemmas
+mod MedianLemmas
 mod Utf8Lemmas
-mod PlanSteps
 mod PlanNames
 mod PlanTexts
 mod PlanSlots

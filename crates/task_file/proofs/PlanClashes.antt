@@ -1,12 +1,14 @@
 -- Slots in which no clash is found: none of their entries stands twice, and no two of a slot's tasks set one cell.
 -- This project's own.
-use Rattle.std.proofs.Common.{◌≡◌, ◌≢◌, ℕ, zero, suc, ◌+◌, List, [], ◌∷◌, ◌++◌, Bool, true, false, cond, Option, Some, None, refl, sym, ap, ◌∙◌, subst, arith, append_assoc, append-nil}
 use Rattle.std.specs.Prelude.{All, AllPairs, slice_index_or, ◌||◌, ◌==◌}
 use Rattle.std.specs.List.{list_any}
+use Rattle.std.proofs.Common.{◌≡◌, ◌≢◌, ℕ, zero, suc, ◌+◌, List, [], ◌∷◌, ◌++◌, Bool, true, false, cond, Option, Some, None, refl, sym, ap, ◌∙◌, subst, arith, append_assoc, append-nil}
 use Rattle.std.proofs.lemmas.List.{map_push}
 use Rattle.std.proofs.lemmas.List.Elements.{All-nil, All-cons, All-push, All-weaker}
 use Rattle.std.proofs.lemmas.List.Folds.{list_any_at, list_any-append}
 use Rattle.std.proofs.lemmas.List.Quantifiers.{all_pairs_push}
+use Rattle.rcp_base.specs.Answers.{has_number}
+use Rattle.rcp_base.proofs.StepLaws.{neither_found}
 use Rattle.rcp_model.specs.declared.task.SetRow.{SetRow}
 use Rattle.rcp_model.specs.declared.task.Task.{Task}
 use Rattle.rcp_model.specs.declared.plan.SlotRow.{SlotRow}
@@ -14,11 +16,10 @@ use Rattle.rcp_model.specs.Slot.{no_task, numbered}
 use Rattle.rcp_model.specs.Plan.{SetApart}
 use Rattle.task_file.specs.declared.fault.FileFault.{FileFault}
 use Rattle.task_file.specs.declared.fault.FileFault.TheVariants.{SlotClash}
+use Rattle.task_file.specs.Places.{of_entry}
+use Rattle.task_file.specs.Slots.{cells_set, cells_of_number, task_clash_from, vote_clash_from, clash_from}
 use Rattle.task_file.specs.declared.path.Key.TheVariants as key
 use Rattle.task_file.specs.declared.path.Section.TheVariants as section
-use Rattle.task_file.specs.Verdict.{of_entry}
-use Rattle.task_file.specs.Slots.{has_number, cells_set, cells_of_number, task_clash_from, vote_clash_from, clash_from}
-use Rattle.task_file.proofs.PlanSteps.{neither_found}
 
 -- what none passes each fails
 each_fails : {X : Type 0} (test : X → Bool) (xs : List X) → list_any test xs ≡ false → All (λ x. test x ≡ false) xs

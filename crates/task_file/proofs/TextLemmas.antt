@@ -1,14 +1,14 @@
 -- One more text, under its name.
-use Rattle.std.proofs.Common.{◌≡◌, ℕ, zero, suc, ◌+◌, ◌<◌, ◌≤◌, List, [], ◌∷◌, ◌++◌, length, get_or, map, drop, Ok, refl, ap, subst, sym, ◌∙◌, arith}
+use Rattle.std.proofs.Common.{◌≡◌, ℕ, zero, suc, ◌+◌, ◌<◌, ◌≤◌, List, [], ◌∷◌, ◌++◌, length, get_or, map, drop, Ok, refl, ap, subst, sym, ◌∙◌, arith, Result}
+use Rattle.rcp_base.specs.Answers.{each_from, IsFaultOr}
+use Rattle.rcp_base.proofs.ReaderLaws.{after, each_more, each_stops, all_seen}
+use Rattle.task_file.specs.Fault.{is_file_memory}
 use Rattle.task_file.specs.declared.fault.FileFault.{FileFault}
-use Rattle.task_file.specs.declared.sections.RawText as code
-use Rattle.task_file.specs.Limits.{AreShort}
+use Rattle.task_file.specs.inner.Limits.{AreShort}
 use Rattle.task_file.specs.Names.{text_names}
-use Rattle.task_file.specs.SectionViews.{text_view}
-use Rattle.task_file.specs.Shape.{RawText}
-use Rattle.task_file.specs.Verdict.{Verdict, each_from, IsFault}
-use Rattle.task_file.proofs.EachLemmas.{after}
-use Rattle.task_file.proofs.ItemLemmas.{each_more, each_stops, all_seen}
+use Rattle.task_file.specs.inner.SectionViews.{text_view}
+use Rattle.task_file.specs.Sections.{RawText}
+use Rattle.task_file.specs.declared.sections.RawText as code
 
 name_at : (texts : List code.RawText) (i : ℕ) (e : List ℕ) (d : code.RawText) → i < length texts
     → get_or (text_names (map text_view texts)) i e ≡ (get_or texts i d).name.now
@@ -28,19 +28,19 @@ pub text_is_short : (texts : List code.RawText) (i : ℕ) (d : code.RawText) →
 text_is_short texts i d within short = all_seen (λ raw. length raw.text ≤ 4096) text_view texts i d within short
 
 pub text_stops :
-    {B : Type 0} (read : ℕ → RawText → Verdict B) (texts : List code.RawText) (names : List (List ℕ)) (done : List B) (i : ℕ) (d : code.RawText)
-    (name : List ℕ) (fault : FileFault) (whole : Verdict (List B)) →
+    {B : Type 0} (read : ℕ → RawText → Result B FileFault) (texts : List code.RawText) (names : List (List ℕ)) (done : List B) (i : ℕ) (d : code.RawText)
+    (name : List ℕ) (fault : FileFault) (whole : Result (List B) FileFault) →
     i < length texts → names ≡ text_names (map text_view texts) → name ≡ get_or names i name →
     whole ≡ after done (each_from read i (map text_view (drop i texts))) →
-    IsFault fault (read i (record { name = name; text = (get_or texts i d).text.now })) →
-    IsFault fault whole
+    IsFaultOr (is_file_memory fault) fault (read i (record { name = name; text = (get_or texts i d).text.now })) →
+    IsFaultOr (is_file_memory fault) fault whole
 text_stops read texts names done i d name fault whole within are is left stops =
-    let P : RawText → Type 0 = λ raw. IsFault fault (read i raw) in
-    each_stops text_view read texts done i d fault whole within left (subst P (named_text texts names i d name within are is) stops)
+    let P : RawText → Type 0 = λ raw. IsFaultOr (is_file_memory fault) fault (read i raw) in
+    each_stops text_view read texts done i d (is_file_memory fault) fault whole within left (subst P (named_text texts names i d name within are is) stops)
 
 pub text_more :
-    {B : Type 0} (read : ℕ → RawText → Verdict B) (texts : List code.RawText) (names : List (List ℕ)) (done : List B) (i : ℕ) (d : code.RawText)
-    (name : List ℕ) (y : B) (whole : Verdict (List B)) →
+    {B : Type 0} (read : ℕ → RawText → Result B FileFault) (texts : List code.RawText) (names : List (List ℕ)) (done : List B) (i : ℕ) (d : code.RawText)
+    (name : List ℕ) (y : B) (whole : Result (List B) FileFault) →
     i < length texts → names ≡ text_names (map text_view texts) → name ≡ get_or names i name →
     whole ≡ after done (each_from read i (map text_view (drop i texts))) →
     read i (record { name = name; text = (get_or texts i d).text.now }) ≡ Ok y →

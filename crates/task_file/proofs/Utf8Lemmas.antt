@@ -1,12 +1,12 @@
 -- Bytes that are text, and others.
+use Rattle.std.specs.Str.{is_utf8, IsUtf8}
 use Rattle.std.proofs.Common.{◌≡◌, ℕ, List, Bool, true, false, None, Err, cond, ap, refl}
 use Rattle.std.proofs.lemmas.Str.{IsUtf8-from_is_utf8, is_utf8-from_IsUtf8}
-use Rattle.std.specs.Str.{is_utf8, IsUtf8}
 use Rattle.toml.specs.Parse.{parse_document}
-use Rattle.task_file.specs.declared.fault.FileFault.TheVariants as fault
-use Rattle.task_file.specs.DocumentParts.{document_of_text}
+use Rattle.rcp_base.specs.Answers.{found_or}
+use Rattle.task_file.specs.inner.DocumentParts.{document_of_text}
 use Rattle.task_file.specs.TaskFile.{document_of}
-use Rattle.task_file.specs.Verdict.{found_or}
+use Rattle.task_file.specs.declared.fault.FileFault.TheVariants as fault
 
 pub text_is_read : (bytes : List ℕ) → IsUtf8 bytes → document_of bytes ≡ document_of_text bytes
 unfolding document_of

@@ -10,7 +10,9 @@ use Rattle.task_file.specs.declared.path.Section.TheVariants as section
 
 -- the word of a section in the file, and `?` for any other
 abbrev pub section_word : Section → List ℕ
+section_word section.Format = codes "format"
 section_word section.Replicas = codes "replicas"
+section_word section.RecoveryLimit = codes "recovery_limit"
 section_word section.Timing = codes "timing"
 section_word section.Sensor = codes "sensor"
 section_word section.Cell = codes "cell"
@@ -44,7 +46,7 @@ abbrev pub bracketed : Option ℕ → List ℕ
 bracketed None = []
 bracketed (Some number) = codes "[" ++ decimal number ++ codes "]"
 
--- a key behind a dot, where there is one
+-- a key after a dot, where there is one
 abbrev pub dotted : Option Key → List ℕ
 dotted None = []
 dotted (Some key) = codes "." ++ key_word key

@@ -70,7 +70,7 @@ impl fmt::Display for Bracketed {
     }
 }
 
-// A key behind a dot, where there is one.
+// A key after a dot, where there is one.
 #[derive(Clone, Copy)]
 struct Dotted(Option<Key>);
 
@@ -92,7 +92,9 @@ fn section_word(section: &Section) -> &'static str
     ensures { result.now ≡ spec.section_word section.now }
 {
     match section {
+        Section::Format => "format",
         Section::Replicas => "replicas",
+        Section::RecoveryLimit => "recovery_limit",
         Section::Timing => "timing",
         Section::Sensor => "sensor",
         Section::Cell => "cell",

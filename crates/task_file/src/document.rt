@@ -1,6 +1,6 @@
 //! Look-ups in a table of a document: each finds what the definition finds in this part of the tree.
 //! This project's own.
-ghost use Rattle.std.specs.Prelude.{◌≡◌, ◌≤◌, ◌&&◌, nat_le, length, map, is_some, option_map, string_bytes, IfSome};
+ghost use Rattle.std.specs.Prelude.{◌≡◌, ◌≤◌, length, map, is_some, option_map, string_bytes, IfSome};
 ghost use Rattle.std.specs.List.{list_all, list_any};
 ghost use Rattle.std.specs.Map.{keys_of};
 ghost use Rattle.std.specs.Str.{bytes_eq};
@@ -32,6 +32,7 @@ pub fn any_integer_at(table: &Table, key: &str) -> Option<i64>
 }
 
 /// The integer at a key, from the least to the greatest.
+#[tactic(auto, unfolding(crate::specs::Document::integer_at))]
 pub fn integer_at(table: &Table, key: &str, least: i64, greatest: i64) -> Option<i64>
     ensures { result ≡ spec.integer_at least greatest key.now (table_view table.now) }
 {
@@ -53,7 +54,8 @@ pub fn text_at<'a>(table: &'a Table, key: &str) -> Option<&'a str>
 
 /// The text at a key, of at most `most` bytes.
 pub fn short_text_at<'a>(table: &'a Table, key: &str, most: usize) -> Option<&'a str>
-    ensures { option_map (λ text. text.now) result ≡ spec.short_text_at most key.now (table_view table.now) }
+    ensures { option_map (λ text. text.now) result ≡ spec.short_text_at most key.now
+        (table_view table.now) }
 {
     let text = text_at(table, key)?;
     if text.len() <= most { Some(text) } else { None }
@@ -66,7 +68,8 @@ pub fn list_at<'a>(
     least: usize,
     greatest: usize,
 ) -> Option<&'a [Value]>
-    ensures list { option_map (λ items. map view items.now) result ≡ spec.list_at least greatest key.now (table_view table.now) }
+    ensures list { option_map (λ items. map view items.now) result
+        ≡ spec.list_at least greatest key.now (table_view table.now) }
     ensures few { IfSome result (λ items. length items.now ≤ greatest) }
 {
     let value = value_at(table, key)?;
@@ -76,7 +79,8 @@ pub fn list_at<'a>(
 
 #[tactic(auto, using(crate::proofs::DocumentLemmas::items_viewed, crate::proofs::DocumentLemmas::count_viewed))]
 fn few_items(items: &[Value], least: usize, greatest: usize) -> Option<&[Value]>
-    ensures list { option_map (λ list. map view list.now) result ≡ spec.where_is (λ list. nat_le least (length list) && nat_le (length list) greatest) (spec.items_of (items_view items.now)) }
+    ensures list { option_map (λ list. map view list.now) result ≡ spec.where_has least greatest
+        (spec.items_of (items_view items.now)) }
     ensures few { IfSome result (λ list. length list.now ≤ greatest) }
 {
     if least <= items.len() && items.len() <= greatest {
@@ -88,7 +92,8 @@ fn few_items(items: &[Value], least: usize, greatest: usize) -> Option<&[Value]>
 
 /// The table at a key.
 pub fn table_at<'a>(table: &'a Table, key: &str) -> Option<&'a Table>
-    ensures { option_map (λ inner. table_view inner.now) result ≡ spec.table_at key.now (table_view table.now) }
+    ensures { option_map (λ inner. table_view inner.now) result ≡ spec.table_at key.now
+        (table_view table.now) }
 {
     let value = value_at(table, key)?;
     value.as_table()
@@ -102,7 +107,8 @@ pub fn has_only(table: &Table, keys: &[&str]) -> bool
 }
 
 fn each_key(table: &Table, keys: &[&str]) -> bool
-    ensures { result ≡ list_all (λ key. list_any (λ k. bytes_eq k.now (string_bytes key)) keys.now) (keys_of table.now.entries) }
+    ensures { result ≡ list_all (λ key. list_any (λ k. bytes_eq k.now (string_bytes key)) keys.now)
+        (keys_of table.now.entries) }
 {
     table.keys().all(|key| is_among(keys, key.as_str()))
 }

@@ -1,7 +1,7 @@
 //! Why a task file is refused.
 //! This project's own.
 ghost use Rattle.std.specs.Prelude.{◌≡◌};
-ghost use Rattle.task_file.specs.Texts.{fault_of_text};
+ghost use Rattle.task_file.specs.Fault.{fault_of_text};
 
 use crate::path::Path;
 use rcp_base::Memory;
@@ -38,7 +38,7 @@ pub enum FileFault {
     SlotClash { path: Path },
     #[error("timing rule {rule} of the task file fails")]
     Timing { rule: u8 },
-    #[error("memory was wanting")]
+    #[error("memory ran out")]
     Memory,
 }
 

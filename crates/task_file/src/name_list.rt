@@ -1,9 +1,8 @@
 //! A list of names, each of which is found by its text.
 //! This project's own.
-ghost use Rattle.std.specs.Prelude.{◌≡◌, ◌<◌, [], ◌∷◌, ◌++◌, length, position, if◌then◌else◌, IfOk, IfSome, OnErr};
-ghost use Rattle.std.specs.Str.{bytes_eq};
-ghost use Rattle.task_file.specs.Document as document;
-ghost use Rattle.task_file.specs.NameLists.{is_new_name};
+ghost use Rattle.std.specs.Prelude.{◌≡◌, ◌<◌, [], ◌∷◌, ◌++◌, length, if◌then◌else◌, IfOk, IfSome, OnErr};
+ghost use Rattle.rcp_base.specs.Answers.{has_text, place_in};
+ghost use Rattle.task_file.specs.inner.NameLists.{is_new_name};
 
 use indexmap::IndexMap;
 use rcp_base::{Memory, Name};
@@ -18,11 +17,11 @@ pub struct NameList<'a> {
 
 impl<'a> Model for NameList<'a> {
     ghost use Rattle.std.specs.Prelude.{ℕ, List};
-    ghost use Rattle.task_file.specs.NameEntries.{texts_of, AreTheirTexts};
+    ghost use Rattle.task_file.specs.inner.NameEntries.{entry_texts, AreTheirTexts};
 
     ghost Value = { List (List ℕ) };
 
-    ghost view = { λ list. texts_of list.names.entries };
+    ghost view = { λ list. entry_texts list.names.entries };
 
     ghost invariant = { λ list. AreTheirTexts list.names.entries };
 }
@@ -39,7 +38,8 @@ impl<'a> NameList<'a> {
     /// Adds the name that a text is, where it is a new one, and tells whether it was.
     pub fn add(&mut self, text: &'a str) -> Result<bool, Memory>
         ensures new { IfOk result (λ new. new ≡ is_new_name self.old text.now) }
-        ensures names { IfOk result (λ new. self.new ≡ (if new then self.old ++ text.now ∷ [] else self.old)) }
+        ensures names { IfOk result
+            (λ new. self.new ≡ (if new then self.old ++ text.now ∷ [] else self.old)) }
         ensures err { OnErr result (self.new ≡ self.old) }
     {
         let Some(name) = Name::read(text) else {
@@ -53,14 +53,14 @@ impl<'a> NameList<'a> {
 
     /// Whether a text is one of the names.
     pub fn has(&self, text: &str) -> bool
-        ensures { result ≡ document.is_among self.now text.now }
+        ensures { result ≡ has_text self.now text.now }
     {
         self.names.contains_key(text)
     }
 
     /// The number of the name that a text is.
     pub fn number_of(&self, text: &str) -> Option<usize>
-        ensures number { result ≡ position (bytes_eq text.now) self.now }
+        ensures number { result ≡ place_in self.now text.now }
         ensures within { IfSome result (λ number. number < length self.now) }
     {
         self.names.get_index_of(text)

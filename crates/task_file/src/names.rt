@@ -1,19 +1,20 @@
 //! The names of a task file: each is a name, and none stands twice in its set.
 //! This project's own.
 ghost use Rattle.std.specs.Prelude.{◌≡◌, ◌≤◌, [], ◌∷◌, ◌++◌, length, map, if◌then◌else◌, IfOk};
+ghost use Rattle.rcp_base.specs.Answers.{Gives};
 ghost use Rattle.task_file.specs.declared.path.Section.TheVariants as section;
-ghost use Rattle.task_file.specs.Limits.{AreWithinLimits};
-ghost use Rattle.task_file.specs.Names.{variable_names, text_names};
-ghost use Rattle.task_file.specs.NameLists as spec;
-ghost use Rattle.task_file.specs.SectionViews.{variable_view, text_view, sections_view};
-ghost use Rattle.task_file.specs.Verdict.{Gives};
+ghost use Rattle.task_file.specs.inner.Limits.{AreShortSections};
+ghost use Rattle.task_file.specs.Names.{raw_names, text_names};
+ghost use Rattle.task_file.specs.inner.NameLists as spec;
+ghost use Rattle.task_file.specs.inner.SectionViews.{variable_view, text_view, sections_view};
+ghost use Rattle.task_file.specs.Fault.{is_file_memory};
 
 use crate::fault::FileFault;
 use crate::name_list::NameList;
 use crate::path::{Key, Section};
 use crate::places::of_table_key;
 use crate::sections::{RawText, RawVariable, Sections};
-use rcp_base::Memory;
+use rcp_base::{MAX_TASKS, Memory};
 use std::alloc::Global;
 
 /// The names of the sections, in their order.
@@ -26,10 +27,11 @@ pub struct NameLists<'a> {
 }
 
 /// The names of the sections, where none is bad.
-#[tactic(auto, unfolding(crate::specs::Names::name_fault))]
+#[tactic(auto, unfolding(crate::specs::Names::first_bad_name))]
 pub fn read_names<'a>(alloc: Global, sections: &Sections<'a>) -> Result<NameLists<'a>, FileFault>
-    requires { AreWithinLimits (sections_view sections.now) }
-    ensures { Gives (λ names. names) result (spec.names_in (sections_view sections.now)) }
+    requires { AreShortSections (sections_view sections.now) }
+    ensures { Gives is_file_memory (λ names. names) result
+        (spec.names_of_sections (sections_view sections.now)) }
 {
     let sensors = sensor_names(alloc, sections.sensors.as_slice())?;
     let cells = variable_names(alloc, Section::Cell, &sensors, sections.cells.as_slice())?;
@@ -44,8 +46,9 @@ pub fn read_names<'a>(alloc: Global, sections: &Sections<'a>) -> Result<NameList
 }
 
 fn sensor_names<'a>(alloc: Global, sensors: &[RawVariable<'a>]) -> Result<NameList<'a>, FileFault>
-    requires { length sensors.now ≤ 128 }
-    ensures { Gives (λ names. names) result (spec.names_from section.Sensor [] (variable_names (map variable_view sensors.now))) }
+    requires { length sensors.now ≤ MAX_TASKS }
+    ensures { Gives is_file_memory (λ names. names) result
+        (spec.names_from section.Sensor [] (raw_names (map variable_view sensors.now))) }
 {
     variable_names(alloc, Section::Sensor, &NameList::new(alloc), sensors)
 }
@@ -57,8 +60,9 @@ fn variable_names<'a>(
     before: &NameList<'a>,
     variables: &[RawVariable<'a>],
 ) -> Result<NameList<'a>, FileFault>
-    requires { length variables.now ≤ 128 }
-    ensures { Gives (λ names. names) result (spec.names_from at before.now (variable_names (map variable_view variables.now))) }
+    requires { length variables.now ≤ MAX_TASKS }
+    ensures { Gives is_file_memory (λ names. names) result
+        (spec.names_from at before.now (raw_names (map variable_view variables.now))) }
 {
     let mut names = NameList::new(alloc);
     for (i, variable) in variables.iter().enumerate() {
@@ -75,8 +79,9 @@ fn text_names<'a>(
     at: Section,
     texts: &[RawText<'a>],
 ) -> Result<NameList<'a>, FileFault>
-    requires { length texts.now ≤ 128 }
-    ensures { Gives (λ names. names) result (spec.names_from at [] (text_names (map text_view texts.now))) }
+    requires { length texts.now ≤ MAX_TASKS }
+    ensures { Gives is_file_memory (λ names. names) result
+        (spec.names_from at [] (text_names (map text_view texts.now))) }
 {
     let mut names = NameList::new(alloc);
     for (i, text) in texts.iter().enumerate() {
@@ -88,7 +93,7 @@ fn text_names<'a>(
 }
 
 fn bad_name(at: Section, index: usize) -> FileFault
-    requires { index ≤ 128 }
+    requires { index ≤ MAX_TASKS }
     ensures { result ≡ spec.bad_name at index }
 {
     FileFault::BadName {
@@ -103,7 +108,8 @@ fn add_name<'a>(
     text: &'a str,
 ) -> Result<bool, Memory>
     ensures new { IfOk result (λ new. new ≡ spec.is_new_name (before.now ++ names.old) text.now) }
-    ensures names { IfOk result (λ new. names.new ≡ (if new then names.old ++ text.now ∷ [] else names.old)) }
+    ensures names { IfOk result
+        (λ new. names.new ≡ (if new then names.old ++ text.now ∷ [] else names.old)) }
 {
     if before.has(text) {
         return Ok(false);

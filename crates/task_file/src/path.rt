@@ -4,7 +4,9 @@
 /// A key at the top of a task file.
 #[derive(Clone, Copy, Debug, PartialEq, Eq)]
 pub enum Section {
+    Format,
     Replicas,
+    RecoveryLimit,
     Timing,
     Sensor,
     Cell,

@@ -1,7 +1,7 @@
 //! Paths to the places that readers look at.
 //! This project's own.
 ghost use Rattle.std.specs.Prelude.{◌≡◌};
-ghost use Rattle.task_file.specs.Verdict as spec;
+ghost use Rattle.task_file.specs.Places as spec;
 
 use crate::path::{Key, Path, Section};
 

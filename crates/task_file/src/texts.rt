@@ -1,41 +1,43 @@
 //! The texts of the task language in a task file: each body, and then each actuator's value.
 //! This project's own.
 ghost use Rattle.std.specs.Prelude.{◌≡◌, ◌≤◌, length, map};
-ghost use Rattle.task_file.specs.Limits.{AreWithinLimits, AreShort};
+ghost use Rattle.rcp_base.specs.Answers.{Gives, each_from};
+ghost use Rattle.task_file.specs.inner.Limits.{AreShortSections, AreShort};
 ghost use Rattle.task_file.specs.Names.{text_names};
-ghost use Rattle.task_file.specs.NameLists.{lists_of};
-ghost use Rattle.task_file.specs.SectionViews.{text_view, sections_view};
+ghost use Rattle.task_file.specs.inner.NameLists.{lists_of};
+ghost use Rattle.task_file.specs.inner.SectionViews.{text_view, sections_view};
 ghost use Rattle.task_file.specs.Texts as spec;
-ghost use Rattle.task_file.specs.Verdict.{Gives, each_from};
-ghost use Rattle.task_file.specs.WrittenViews.{written_view};
+ghost use Rattle.task_file.specs.inner.TextRowsView.{text_rows_view};
+ghost use Rattle.task_file.specs.Fault.{is_file_memory};
 
 use crate::fault::FileFault;
 use crate::names::NameLists;
 use crate::path::{Key, Section};
 use crate::places::of_table_key;
 use crate::sections::{RawText, Sections};
-use rcp_base::{List, Name};
+use rcp_base::{List, MAX_ACTUATORS, MAX_BODY, MAX_CELLS, MAX_SENSORS, MAX_TASKS, Name};
 use rcp_model::{ActuatorRow, Task};
 use std::alloc::Global;
 use task_lang::{parse_body, parse_expr};
 
-/// What the texts of a file write.
+/// The tasks and actuators that the texts of a file write.
 #[derive(Drop)]
-pub struct Written {
+pub struct TextRows {
     pub tasks: List<Task>,
     pub actuators: List<ActuatorRow>,
 }
 
 /// What the texts of a file write, over the names of its sections.
-#[tactic(auto, unfolding(crate::specs::Texts::texts_of))]
+#[tactic(auto, unfolding(crate::specs::Texts::text_rows_of))]
 pub fn read_texts(
     alloc: Global,
     sections: &Sections<'_>,
     names: &NameLists<'_>,
-) -> Result<Written, FileFault>
-    requires limits { AreWithinLimits (sections_view sections.now) }
+) -> Result<TextRows, FileFault>
+    requires limits { AreShortSections (sections_view sections.now) }
     requires names { names.now ≡ lists_of (sections_view sections.now) }
-    ensures { Gives written_view result (spec.texts_of (sections_view sections.now)) }
+    ensures { Gives is_file_memory text_rows_view result
+        (spec.text_rows_of (sections_view sections.now)) }
 {
     let sensors = names.sensors.as_slice();
     let cells = names.cells.as_slice();
@@ -53,7 +55,7 @@ pub fn read_texts(
         names.actuators.as_slice(),
         sections.actuators.as_slice(),
     )?;
-    Ok(Written { tasks, actuators })
+    Ok(TextRows { tasks, actuators })
 }
 
 fn tasks_of(
@@ -63,12 +65,13 @@ fn tasks_of(
     names: &[Name],
     texts: &[RawText<'_>],
 ) -> Result<List<Task>, FileFault>
-    requires sensors { length sensors.now ≤ 64 }
-    requires cells { length cells.now ≤ 64 }
+    requires sensors { length sensors.now ≤ MAX_SENSORS }
+    requires cells { length cells.now ≤ MAX_CELLS }
     requires names { names.now ≡ text_names (map text_view texts.now) }
-    requires texts { length texts.now ≤ 128 }
+    requires texts { length texts.now ≤ MAX_TASKS }
     requires short { AreShort (map text_view texts.now) }
-    ensures { Gives (λ tasks. tasks) result (each_from (spec.task_of sensors.now cells.now) 0 (map text_view texts.now)) }
+    ensures { Gives is_file_memory (λ tasks. tasks) result
+        (each_from (spec.task_of sensors.now cells.now) 0 (map text_view texts.now)) }
 {
     let mut tasks = List::new(alloc);
     for (i, text) in texts.iter().enumerate() {
@@ -84,12 +87,13 @@ fn actuators_of(
     names: &[Name],
     texts: &[RawText<'_>],
 ) -> Result<List<ActuatorRow>, FileFault>
-    requires sensors { length sensors.now ≤ 64 }
-    requires cells { length cells.now ≤ 64 }
+    requires sensors { length sensors.now ≤ MAX_SENSORS }
+    requires cells { length cells.now ≤ MAX_CELLS }
     requires names { names.now ≡ text_names (map text_view texts.now) }
-    requires texts { length texts.now ≤ 32 }
+    requires texts { length texts.now ≤ MAX_ACTUATORS }
     requires short { AreShort (map text_view texts.now) }
-    ensures { Gives (λ actuators. actuators) result (each_from (spec.actuator_of sensors.now cells.now) 0 (map text_view texts.now)) }
+    ensures { Gives is_file_memory (λ actuators. actuators) result
+        (each_from (spec.actuator_of sensors.now cells.now) 0 (map text_view texts.now)) }
 {
     let mut actuators = List::new(alloc);
     for (i, text) in texts.iter().enumerate() {
@@ -107,11 +111,12 @@ fn task_of(
     name: Name,
     text: &str,
 ) -> Result<Task, FileFault>
-    requires sensors { length sensors.now ≤ 64 }
-    requires cells { length cells.now ≤ 64 }
-    requires i { i ≤ 128 }
-    requires text { length text.now ≤ 4096 }
-    ensures { Gives (λ task. task) result (spec.task_of sensors.now cells.now i (record { name = name; text = text.now })) }
+    requires sensors { length sensors.now ≤ MAX_SENSORS }
+    requires cells { length cells.now ≤ MAX_CELLS }
+    requires i { i ≤ MAX_TASKS }
+    requires text { length text.now ≤ MAX_BODY }
+    ensures { Gives is_file_memory (λ task. task) result
+        (spec.task_of sensors.now cells.now i (record { name = name; text = text.now })) }
 {
     match parse_body(alloc, name, text, sensors, cells) {
         Ok(task) => Ok(task),
@@ -131,11 +136,12 @@ fn actuator_of(
     name: Name,
     text: &str,
 ) -> Result<ActuatorRow, FileFault>
-    requires sensors { length sensors.now ≤ 64 }
-    requires cells { length cells.now ≤ 64 }
-    requires i { i ≤ 32 }
-    requires text { length text.now ≤ 4096 }
-    ensures { Gives (λ actuator. actuator) result (spec.actuator_of sensors.now cells.now i (record { name = name; text = text.now })) }
+    requires sensors { length sensors.now ≤ MAX_SENSORS }
+    requires cells { length cells.now ≤ MAX_CELLS }
+    requires i { i ≤ MAX_ACTUATORS }
+    requires text { length text.now ≤ MAX_BODY }
+    ensures { Gives is_file_memory (λ actuator. actuator) result
+        (spec.actuator_of sensors.now cells.now i (record { name = name; text = text.now })) }
 {
     match parse_expr(alloc, text, sensors, cells) {
         Ok(value) => Ok(ActuatorRow { name, value }),

@@ -2,11 +2,10 @@
 //! This project's own.
 ghost use Rattle.std.specs.Prelude.{◌≤◌, length, map, IfOk};
 ghost use Rattle.toml.specs.View.{view, table_view};
-ghost use Rattle.task_file.specs.Document as found;
-ghost use Rattle.task_file.specs.SectionViews.{slot_view};
-ghost use Rattle.task_file.specs.Shape as spec;
-ghost use Rattle.task_file.specs.Verdict as verdict;
-ghost use Rattle.task_file.specs.Verdict.{Gives, each_from};
+ghost use Rattle.rcp_base.specs.Answers.{Gives, each_from};
+ghost use Rattle.task_file.specs.Fault.{is_file_memory};
+ghost use Rattle.task_file.specs.Items as spec;
+ghost use Rattle.task_file.specs.inner.SectionViews.{slot_view};
 
 use super::tables::table_of;
 use crate::document::{has_only, list_at};
@@ -19,7 +18,8 @@ use std::alloc::Global;
 use toml::{Table, Value};
 
 fn entry_of<'a>(i: u32, at: Key, j: u32, value: &'a Value) -> Result<&'a str, FileFault>
-    ensures { Gives (λ entry. entry.now) result (spec.entry_of i at j (view value.now)) }
+    ensures { Gives is_file_memory (λ entry. entry.now) result
+        (spec.entry_of i at j (view value.now)) }
 {
     value.as_str().ok_or(FileFault::Shape {
         path: of_entry(Section::Slot, i, at, j),
@@ -33,8 +33,9 @@ fn each_entry<'a>(
     at: Key,
     values: &'a [Value],
 ) -> Result<List<&'a str>, FileFault>
-    requires { length values.now ≤ 128 }
-    ensures { Gives (map (λ entry. entry.now)) result (each_from (spec.entry_of i at) 0 (map view values.now)) }
+    requires { length values.now ≤ MAX_TASKS }
+    ensures { Gives is_file_memory (map (λ entry. entry.now)) result
+        (each_from (spec.entry_of i at) 0 (map view values.now)) }
 {
     let mut entries = List::new(alloc);
     for (j, value) in values.iter().enumerate() {
@@ -44,14 +45,15 @@ fn each_entry<'a>(
     Ok(entries)
 }
 
-fn list_of<'a>(
+fn list_in<'a>(
     i: u32,
     at: Key,
     most: usize,
     word: &str,
     table: &'a Table,
 ) -> Result<&'a [Value], FileFault>
-    ensures list { Gives (λ values. map view values.now) result (spec.there (verdict.of_table_key Section.Slot i at) (found.list_at 0 most word.now (table_view table.now))) }
+    ensures list { Gives is_file_memory (λ values. map view values.now) result
+        (spec.list_in i at most word.now (table_view table.now)) }
     ensures few { IfOk result (λ values. length values.now ≤ most) }
 {
     list_at(table, word, 0, most).ok_or(FileFault::Shape {
@@ -67,15 +69,16 @@ fn entries_of<'a>(
     word: &str,
     table: &'a Table,
 ) -> Result<List<&'a str>, FileFault>
-    requires { most ≤ 128 }
-    ensures { Gives (map (λ entry. entry.now)) result (spec.entries_of i at most word.now (table_view table.now)) }
+    requires { most ≤ MAX_TASKS }
+    ensures { Gives is_file_memory (map (λ entry. entry.now)) result
+        (spec.entries_of i at most word.now (table_view table.now)) }
 {
-    let values = list_of(i, at, most, word, table)?;
+    let values = list_in(i, at, most, word, table)?;
     each_entry(alloc, i, at, values)
 }
 
 fn slot_of<'a>(alloc: Global, i: u32, value: &'a Value) -> Result<RawSlot<'a>, FileFault>
-    ensures { Gives slot_view result (spec.slot_of i (view value.now)) }
+    ensures { Gives is_file_memory slot_view result (spec.slot_of i (view value.now)) }
 {
     let table = table_of(Section::Slot, i, value)?;
     let tasks = entries_of(alloc, i, Key::Tasks, MAX_TASKS, "tasks", table)?;
@@ -90,8 +93,9 @@ fn slot_of<'a>(alloc: Global, i: u32, value: &'a Value) -> Result<RawSlot<'a>, F
 
 /// Each of the values of the section of slots.
 pub fn each_slot<'a>(alloc: Global, values: &'a [Value]) -> Result<List<RawSlot<'a>>, FileFault>
-    requires { length values.now ≤ 128 }
-    ensures { Gives (map slot_view) result (each_from spec.slot_of 0 (map view values.now)) }
+    requires { length values.now ≤ MAX_TASKS }
+    ensures { Gives is_file_memory (map slot_view) result
+        (each_from spec.slot_of 0 (map view values.now)) }
 {
     let mut slots = List::new(alloc);
     for (i, value) in values.iter().enumerate() {

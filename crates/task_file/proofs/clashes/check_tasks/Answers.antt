@@ -1,8 +1,8 @@
 -- A task that runs again or sets a cell again is the clash, and any other is passed.
 use Rattle.std.proofs.Common.{inl, inr, sym, ◌∙◌, arith}
 use Rattle.task_file.proofs.ClashLemmas.{task_clashes, task_passes}
-use Rattle.task_file.proofs.clashes.check_tasks.Goals as goal
 use Rattle.task_file.proofs.clashes.check_tasks.Goals.{then-has_number-via-then-has_number, then-has_number-via-else-has_number+then-sets_again}
+use Rattle.task_file.proofs.clashes.check_tasks.Goals as goal
 
 pub returns-then-has_number : goal.returns-then-has_number
 returns-then-has_number c =

@@ -1,6 +1,6 @@
 -- The fault of the tasks or actuators, where those before have none.
 use Rattle.std.proofs.lemmas.Result.{err_from_is_err_and}
-use Rattle.task_file.specs.SectionViews.{sections_view}
+use Rattle.task_file.specs.inner.SectionViews.{sections_view}
 use Rattle.task_file.proofs.NameLemmas.{task_fault_is_told, actuator_fault_is_told}
 use Rattle.task_file.proofs.names.read_names.Goals as goal
 

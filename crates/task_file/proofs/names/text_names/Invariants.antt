@@ -1,7 +1,7 @@
 -- None of the names so far is bad, and those that are left are tested behind them.
 use Rattle.std.proofs.Common.{◌≡◌, [], map, take, drop}
 use Rattle.task_file.specs.Names.{bad_name_from, text_names}
-use Rattle.task_file.specs.SectionViews.{text_view}
+use Rattle.task_file.specs.inner.SectionViews.{text_view}
 use Rattle.task_file.proofs.names.text_names.Given as goal
 
 abbrev pub invariant-loop-i : goal.invariant-loop-i

@@ -1,6 +1,6 @@
 -- The variables so far.
 use Rattle.std.proofs.Common.{◌≡◌, map, take}
-use Rattle.task_file.specs.SectionViews.{variable_view}
+use Rattle.task_file.specs.inner.SectionViews.{variable_view}
 use Rattle.task_file.specs.TaskFile.{variables_of}
 use Rattle.task_file.proofs.parts.variables_of.Given as goal
 

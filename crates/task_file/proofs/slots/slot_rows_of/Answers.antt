@@ -2,11 +2,11 @@
 use Rattle.std.proofs.Common.{◌+◌, ap, sym, ◌∙◌, arith}
 use Rattle.std.proofs.lemmas.List.{length_push}
 use Rattle.std.proofs.lemmas.List.Elements.{All-push}
-use Rattle.task_file.specs.Limits.{IsShortSlot}
-use Rattle.task_file.specs.SectionViews.{slot_view}
-use Rattle.task_file.specs.SlotRows.{IsShortRow}
+use Rattle.rcp_base.proofs.ReaderLaws.{each_more, all_seen}
+use Rattle.task_file.specs.inner.Limits.{IsShortSlot}
+use Rattle.task_file.specs.inner.SectionViews.{slot_view}
+use Rattle.task_file.specs.inner.SlotRows.{IsShortRow}
 use Rattle.task_file.specs.Slots.{slot_row_of}
-use Rattle.task_file.proofs.ItemLemmas.{each_more, all_seen}
 use Rattle.task_file.proofs.slots.slot_rows_of.Goals as goal
 
 pub slot_row_of-requires-clause-short : goal.slot_row_of-requires-clause-short

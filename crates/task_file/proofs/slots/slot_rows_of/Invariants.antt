@@ -1,10 +1,10 @@
 -- The slots so far have these rows.
 use Rattle.std.proofs.Common.{◌≡◌, map, drop, length, All}
-use Rattle.task_file.specs.SectionViews.{slot_view}
-use Rattle.task_file.specs.SlotRows.{IsShortRow}
+use Rattle.rcp_base.specs.Answers.{each_from}
+use Rattle.rcp_base.proofs.ReaderLaws.{after}
+use Rattle.task_file.specs.inner.SectionViews.{slot_view}
+use Rattle.task_file.specs.inner.SlotRows.{IsShortRow}
 use Rattle.task_file.specs.Slots.{slot_row_of}
-use Rattle.task_file.specs.Verdict.{each_from}
-use Rattle.task_file.proofs.EachLemmas.{after}
 use Rattle.task_file.proofs.slots.slot_rows_of.Given as goal
 
 abbrev pub invariant-loop-i : goal.invariant-loop-i

@@ -1,9 +1,9 @@
 -- The texts so far write these actuators.
 use Rattle.std.proofs.Common.{◌≡◌, map, drop}
-use Rattle.task_file.specs.SectionViews.{text_view}
+use Rattle.rcp_base.specs.Answers.{each_from}
+use Rattle.rcp_base.proofs.ReaderLaws.{after}
+use Rattle.task_file.specs.inner.SectionViews.{text_view}
 use Rattle.task_file.specs.Texts.{actuator_of}
-use Rattle.task_file.specs.Verdict.{each_from}
-use Rattle.task_file.proofs.EachLemmas.{after}
 use Rattle.task_file.proofs.texts.actuators_of.Given as goal
 
 abbrev pub invariant-loop-i : goal.invariant-loop-i

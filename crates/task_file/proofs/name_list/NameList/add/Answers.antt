@@ -1,8 +1,8 @@
 -- A name that is inserted goes last, or changes nothing where it is known.
 use Rattle.std.proofs.Common.{sym, ◌∙◌}
 use Rattle.task_file.proofs.NameEntryLemmas.{texts_added, read_is_name, is_inserted}
-use Rattle.task_file.proofs.name_list.NameList.add.Goals as goal
 use Rattle.task_file.proofs.name_list.NameList.add.Goals.{in-Ok, in-Err}
+use Rattle.task_file.proofs.name_list.NameList.add.Goals as goal
 
 pub invariant_of-self : goal.invariant_of-self
 invariant_of-self c =

@@ -1,6 +1,6 @@
 -- The index of a key is the place of its text.
-use Rattle.std.proofs.Common.{position, ap, ◌∙◌}
 use Rattle.std.specs.Str.{bytes_eq}
+use Rattle.std.proofs.Common.{position, ap, ◌∙◌}
 use Rattle.task_file.proofs.NameEntryLemmas.{number_by_text}
 use Rattle.task_file.proofs.name_list.NameList.number_of.Goals as goal
 

@@ -2,9 +2,9 @@
 use Rattle.std.proofs.Common.{arith}
 use Rattle.std.proofs.lemmas.Result.{err_from_is_err_and}
 use Rattle.toml.specs.View.{view}
-use Rattle.task_file.specs.SectionViews.{text_view}
-use Rattle.task_file.specs.Shape.{named_text_of}
-use Rattle.task_file.proofs.EachLemmas.{reads_none, reads_more, reads_stop, reads_all}
+use Rattle.rcp_base.proofs.ReaderLaws.{reads_none, reads_more, reads_stop, reads_all}
+use Rattle.task_file.specs.inner.SectionViews.{text_view}
+use Rattle.task_file.specs.Items.{named_text_of}
 use Rattle.task_file.proofs.shape.texts.each_text.Goals as goal
 
 pub loop-i-init : goal.loop-i-init
@@ -13,7 +13,7 @@ loop-i-init c = rw c.new-texts.ensures (reads_none view text_view (named_text_of
 pub returns-in_err-text : goal.returns-in_err-text
 returns-in_err-text c =
     let p = err_from_is_err_and c.from_residual.result c.from_residual.ensures.1 in
-    rw (p.1, p.2) (reads_stop _ _ _ _ _ _ _ _ (omega arith) c.index-values-i.is c.loop-i.invariant c.in_err-text.ensures)
+    rw (p.1, p.2) (reads_stop _ _ _ _ _ _ _ _ _ (omega arith) c.index-values-i.is c.loop-i.invariant c.in_err-text.ensures)
 
 pub loop-i-preserved : goal.loop-i-preserved
 loop-i-preserved c =

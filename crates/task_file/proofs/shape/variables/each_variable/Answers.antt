@@ -2,18 +2,18 @@
 use Rattle.std.proofs.Common.{arith}
 use Rattle.std.proofs.lemmas.Result.{err_from_is_err_and}
 use Rattle.toml.specs.View.{view}
-use Rattle.task_file.specs.SectionViews.{variable_view}
-use Rattle.task_file.specs.Shape.{variable_of}
-use Rattle.task_file.proofs.EachLemmas.{reads_none, reads_more, reads_stop, reads_all}
+use Rattle.rcp_base.proofs.ReaderLaws.{reads_none, reads_more, reads_stop, reads_all}
+use Rattle.task_file.specs.inner.SectionViews.{variable_view}
+use Rattle.task_file.specs.Items.{variable_of}
 use Rattle.task_file.proofs.shape.variables.each_variable.Goals as goal
 
 pub loop-i-init : goal.loop-i-init
-loop-i-init c = rw c.new-variables.ensures (reads_none view variable_view (variable_of c.args.at) c.args.values.now)
+loop-i-init c = rw c.new-variables.ensures (reads_none view variable_view (variable_of c.args.at c.args.votes) c.args.values.now)
 
 pub returns-in_err-variable : goal.returns-in_err-variable
 returns-in_err-variable c =
     let p = err_from_is_err_and c.from_residual.result c.from_residual.ensures.1 in
-    rw (p.1, p.2) (reads_stop _ _ _ _ _ _ _ _ (omega arith) c.index-values-i.is c.loop-i.invariant c.in_err-variable.ensures)
+    rw (p.1, p.2) (reads_stop _ _ _ _ _ _ _ _ _ (omega arith) c.index-values-i.is c.loop-i.invariant c.in_err-variable.ensures)
 
 pub loop-i-preserved : goal.loop-i-preserved
 loop-i-preserved c =

@@ -4,12 +4,14 @@ use Rattle.std.specs.Prelude.{ℕ, ◌≡◌, List, map}
 use Rattle.std.specs.Borrow.{Bor}
 use Rattle.std.specs.Map.{values_of}
 
+-- a text beside a name
 abbrev pub Entry : Type 0
 Entry = Bor (List ℕ) × List ℕ
 
-abbrev pub texts_of : List Entry → List (List ℕ)
-texts_of entries = map (λ entry. entry.0.now) entries
+-- the texts
+abbrev pub entry_texts : List Entry → List (List ℕ)
+entry_texts entries = map (λ entry. entry.0.now) entries
 
 -- each name is its text
 abbrev pub AreTheirTexts : List Entry → Type 0
-AreTheirTexts entries = values_of entries ≡ texts_of entries
+AreTheirTexts entries = values_of entries ≡ entry_texts entries
