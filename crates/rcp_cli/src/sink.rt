@@ -24,7 +24,8 @@ impl<W: Write> StdOut<W> {
 
     /// The sink before its first failure.
     pub fn new(writer: W) -> StdOut<W>
-        ensures { std_out_state W.contents result ≡ record { written = W.contents writer; faults = 0 } }
+        ensures { std_out_state W.contents result
+            ≡ record { written = W.contents writer; faults = 0 } }
     {
         StdOut { writer, faults: 0 }
     }
@@ -47,7 +48,8 @@ impl<W: Write> Sink for StdOut<W> {
 // Writes all the bytes, piece by piece, and flushes. After an error, a front of them was written.
 fn write_pieces<W: Write>(writer: &mut W, bytes: &[u8]) -> Result<(), WriteError>
     ensures ok { OnOk result (Appends (W.contents writer.old) (W.contents writer.new) bytes.now) }
-    ensures err { OnErr result (AppendsFront (W.contents writer.old) (W.contents writer.new) bytes.now) }
+    ensures err { OnErr result
+        (AppendsFront (W.contents writer.old) (W.contents writer.new) bytes.now) }
 {
     let mut rest = bytes;
     'writing: while !rest.is_empty() {

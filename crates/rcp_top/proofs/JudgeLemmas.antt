@@ -15,9 +15,9 @@ use Rattle.fault_journal.specs.History.{journal_verdict}
 use Rattle.fault_journal.specs.Journal.{journal_rows, rows_in, records_of}
 use Rattle.task_file.specs.declared.fault.FileFault.{FileFault}
 use Rattle.task_file.specs.declared.fault.FileFault.TheVariants as fault
-use Rattle.task_file.specs.Verdict.{Verdict, IsFault, ◌>>=◌}
+use Rattle.rcp_base.specs.Answers.{◌>>=◌}
 use Rattle.task_file.specs.Shape.{sections_of}
-use Rattle.task_file.specs.TaskFile.{task_file_verdict, document_of, parts_in}
+use Rattle.task_file.specs.TaskFile.{task_file_result, document_of, parts_of_sections}
 use Rattle.rcp_top.specs.Finds.{IsSeenUpTo}
 
 -- the verdict on the rows and votes of a graph
@@ -36,14 +36,14 @@ unfolding journal_verdict
 long_journal plan bytes longer = rw (long_rows plan bytes longer) refl
 
 -- a task file over the limit is refused
-long_file : (bytes : List ℕ) → 1048576 < length bytes → task_file_verdict bytes ≡ Err fault.TooLong
-unfolding task_file_verdict
+long_file : (bytes : List ℕ) → 1048576 < length bytes → task_file_result bytes ≡ Err fault.TooLong
+unfolding task_file_result
 long_file bytes longer =
-    ap (λ b. cond b (document_of bytes >>= sections_of >>= parts_in) (Err fault.TooLong)) (lt-leb (length bytes) 1048576 longer)
+    ap (λ b. cond b (document_of bytes >>= sections_of >>= parts_of_sections) (Err fault.TooLong)) (lt-leb (length bytes) 1048576 longer)
 
 -- files that are seen up to the limit have the verdict of what was seen
-pub same_file : (seen bytes : List ℕ) → IsSeenUpTo 1048576 seen bytes → task_file_verdict seen ≡ task_file_verdict bytes
-same_file seen bytes (inl is) = ap task_file_verdict is
+pub same_file : (seen bytes : List ℕ) → IsSeenUpTo 1048576 seen bytes → task_file_result seen ≡ task_file_result bytes
+same_file seen bytes (inl is) = ap task_file_result is
 same_file seen bytes (inr both) = long_file seen both.0 ∙ sym (long_file bytes both.1)
 
 pub same_journal : (plan : PlanParts) (seen bytes : List ℕ) → IsSeenUpTo 67108864 seen bytes → journal_verdict plan seen ≡ journal_verdict plan bytes

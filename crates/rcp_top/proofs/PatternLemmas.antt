@@ -10,8 +10,8 @@ use Rattle.rcp_model.specs.Shown.{recovery_length, witness_walk, witness_cycle}
 use Rattle.rcp_model.specs.declared.plan.PlanParts.{PlanParts}
 use Rattle.fault_journal.specs.History.{journal_verdict}
 use Rattle.fault_journal.specs.declared.fault.JournalFault.{JournalFault}
-use Rattle.task_file.specs.TaskFile.{task_file_verdict}
-use Rattle.task_file.specs.Verdict.{Verdict}
+use Rattle.task_file.specs.TaskFile.{task_file_result}
+use Rattle.task_file.specs.declared.fault.FileFault.{FileFault}
 use Rattle.rcp_model.proofs.ShownLaws.{cycle_found, cycle_is_right, none_found, recovery_is_right}
 use Rattle.rcp_top.specs.declared.status.Status.TheVariants as status
 use Rattle.rcp_top.specs.declared.stop.Refusal.{Refusal}
@@ -54,10 +54,10 @@ work_is (Form.check file) = refl
 work_is (Form.thin file) = refl
 work_is (Form.ideal file journal) = refl
 
-plan_end : (files : Files) (file bytes : List ℕ) (plan : PlanParts) → files file ≡ Some bytes → task_file_verdict bytes ≡ Ok plan
+plan_end : (files : Files) (file bytes : List ℕ) (plan : PlanParts) → files file ≡ Some bytes → task_file_result bytes ≡ Ok plan
     → end_over files (plan_at file) ≡ End.gave (good_plan (Ok plan))
 plan_end files file bytes plan held given =
-    ap (end_at file (λ bytes. End.gave (good_plan (task_file_verdict bytes)))) held ∙ ap (λ (said : Verdict PlanParts). End.gave (good_plan said)) given
+    ap (end_at file (λ bytes. End.gave (good_plan (task_file_result bytes)))) held ∙ ap (λ (said : Result PlanParts FileFault). End.gave (good_plan said)) given
 
 outcome_is : (words : List (List ℕ)) (files : Files) (form : Form) (plan : PlanParts) → GivesPlan words files form plan
     → outcome_of words files ≡ outcome_at (end_then files (after_plan form) (End.gave (good_plan (Ok plan))))

@@ -11,7 +11,7 @@ use Rattle.rcp_model.specs.Witness.{IsWitnessCycle}
 use Rattle.rcp_model.specs.declared.node.Node.{Node}
 use Rattle.rcp_model.specs.declared.plan.PlanParts.{PlanParts}
 use Rattle.rcp_model.specs.Recovery.{IsRecovery}
-use Rattle.task_file.specs.TaskFile.{task_file_verdict}
+use Rattle.task_file.specs.TaskFile.{task_file_result}
 use Rattle.rcp_top.specs.Forms.{Form, form_of}
 use Rattle.rcp_top.specs.Check.{check_text}
 use Rattle.rcp_top.specs.PatternLines.{pattern_refused_line}
@@ -44,7 +44,7 @@ pub record GivesPlan (words : List (List ℕ)) (files : Files) (form : Form) (pl
   pub form_is : form_of words ≡ Some form
   pub bytes : List ℕ
   pub held : files (file_of form) ≡ Some bytes
-  pub given : task_file_verdict bytes ≡ Ok plan
+  pub given : task_file_result bytes ≡ Ok plan
 
 -- a line that names an unvoted cycle of the plan, and the one that is defined to be shown
 pub record NamesCycle (plan : PlanParts) (text : List ℕ) : Type 0 where

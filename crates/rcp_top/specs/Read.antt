@@ -6,7 +6,7 @@ use Rattle.rcp_model.specs.Levels.{has_cycle}
 use Rattle.rcp_model.specs.PlanGraph.{graph_of_plan}
 use Rattle.rcp_model.specs.Shown.{recovery_length, witness_walk, witness_cycle}
 use Rattle.task_file.specs.declared.fault.FileFault.{FileFault}
-use Rattle.task_file.specs.TaskFile.{task_file_verdict}
+use Rattle.task_file.specs.TaskFile.{task_file_result}
 use Rattle.fault_journal.specs.declared.fault.JournalFault.{JournalFault}
 use Rattle.fault_journal.specs.declared.journal.Journal.{Journal}
 use Rattle.fault_journal.specs.History.{journal_verdict}
@@ -32,7 +32,7 @@ good_history (Ok history) = Ok history
 abbrev pub plan_at : List ℕ → Reading PlanParts
 plan_at file = do
   bytes ← file_at file
-  Reading.gives (good_plan (task_file_verdict bytes))
+  Reading.gives (good_plan (task_file_result bytes))
 
 -- the history of a plan's journal
 abbrev pub history_at : PlanParts → List ℕ → Reading History

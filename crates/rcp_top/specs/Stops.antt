@@ -1,17 +1,12 @@
 -- Why a call stops, by the fault of a file. This project's own.
 use Rattle.std.specs.Prelude.{Bool, true, false, if◌then◌else◌}
 use Rattle.task_file.specs.declared.fault.FileFault.{FileFault}
-use Rattle.task_file.specs.declared.fault.FileFault.TheVariants as fault
+use Rattle.task_file.specs.Fault.{is_file_memory}
 use Rattle.fault_journal.specs.declared.fault.JournalFault.{JournalFault}
 use Rattle.fault_journal.specs.declared.fault.JournalFault.TheVariants as journal
 use Rattle.rcp_top.specs.declared.stop.Refusal.TheVariants as refusal
 use Rattle.rcp_top.specs.declared.stop.Stop.{Stop}
 use Rattle.rcp_top.specs.declared.stop.Stop.TheVariants as stop
-
--- memory ran out while the task file was read
-abbrev pub is_file_memory : FileFault → Bool
-is_file_memory fault.Memory = true
-is_file_memory _ = false
 
 -- memory ran out while the journal was read
 abbrev pub is_journal_memory : JournalFault → Bool

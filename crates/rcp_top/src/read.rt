@@ -2,7 +2,7 @@
 //! This project's own.
 ghost use Rattle.std.specs.Prelude.{Ok};
 ghost use Rattle.rcp_base.specs.States.{IsLater};
-ghost use Rattle.task_file.specs.TaskFile.{task_file_verdict};
+ghost use Rattle.task_file.specs.TaskFile.{task_file_result};
 ghost use Rattle.fault_journal.specs.History.{journal_verdict};
 ghost use Rattle.rcp_top.specs.Finds.{Finds, IsSeenUpTo, TellsEnd};
 ghost use Rattle.rcp_top.specs.Reading.{End, file_at};
@@ -67,7 +67,7 @@ pub fn read_journal_at<'a, F: Folder>(
 }
 
 fn plan_in<'a>(alloc: Global, bytes: &[u8]) -> Result<Judged, Stop<'a>>
-    ensures { TellsEnd IsJudged result (End.gave (spec.good_plan (task_file_verdict bytes.now))) }
+    ensures { TellsEnd IsJudged result (End.gave (spec.good_plan (task_file_result bytes.now))) }
 {
     let plan = read_plan(alloc, bytes)?;
     judged(alloc, plan)

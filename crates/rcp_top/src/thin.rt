@@ -1,6 +1,6 @@
 //! `thin FILE`: a plan's vote pattern without the votes that can be spared.
 //! This project's own.
-ghost use Rattle.std.specs.Prelude.{◌≡◌, false, IfOk};
+ghost use Rattle.std.specs.Prelude.{◌≡◌, ◌≤◌, false, IfOk, IfSome};
 ghost use Rattle.rcp_base.specs.States.{IsLater};
 ghost use Rattle.rcp_base.specs.Writing.{Writes};
 ghost use Rattle.rcp_model.specs.PlanGraph.{graph_of_plan};
@@ -55,6 +55,15 @@ pub fn read_thin<'a, F: Folder>(
     Ok(Thin { plan, thinned })
 }
 
+// The limit on recovery that is kept, if there is one.
+#[tactic(auto, using(crate::proofs::ThinLemmas::limit_is_some))]
+fn limit_of(plan: &Plan) -> Option<u32>
+    ensures is { result ≡ plan.now.recovery_limit }
+    ensures some { IfSome result (λ k. 1 ≤ k) }
+{
+    plan.parts().recovery_limit
+}
+
 // The thinned pattern of a plan whose pattern has no unvoted cycle.
 fn thinned_pattern(alloc: Global, plan: &Plan) -> Result<Thinned, Memory>
     requires { has_cycle (graph_of_plan plan.now) ≡ false }
@@ -62,8 +71,7 @@ fn thinned_pattern(alloc: Global, plan: &Plan) -> Result<Thinned, Memory>
 {
     let rows = DepRows::build(alloc, plan)?;
     let mut pattern = Pattern::of(alloc, plan)?;
-    let limit = plan.parts().recovery_limit;
-    let spared = thin(alloc, &rows, &mut pattern, limit)?;
+    let spared = thin(alloc, &rows, &mut pattern, limit_of(plan))?;
     match analyse(alloc, &rows, &pattern)? {
         Verdict::Recovers { length, walk } => Ok(Thinned {
             pattern,

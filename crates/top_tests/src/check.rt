@@ -6,7 +6,7 @@ use crate::files::{MOTOR, TWO_FRAMES};
 use std::test::Fail;
 
 // In the fourth, the names stand in the order of the cells, and not in that of the file. The fifth has the votes that
-// `thin` leaves of the motor with all votes.
+// `thin` leaves of the motor with all votes. A limit on recovery changes nothing here.
 const CHECKED: &str = r#"0 motor check T
 task sense err := cmd - pos;
 task integrate sum := clamp(sum + err, -100, 100);
@@ -57,6 +57,25 @@ task integrate sum := clamp(sum + err, -100, 100);
 task move pos := pos + sum / 2;
 slot 0 votes -
 slot 1 votes pos sum
+votes 2
+recovery 3
+walk 0:err 1:err
+
+0 counter check T
+| replicas = 3 => format = 2~recovery_limit = 1~replicas = 3
+task count n := n + 1;
+slot 0 votes n
+votes 1
+recovery 1
+walk -
+
+0 motor check T
+| replicas = 3 => format = 2~recovery_limit = 2~replicas = 3
+task sense err := cmd - pos;
+task integrate sum := clamp(sum + err, -100, 100);
+task move pos := pos + sum / 2;
+slot 0 votes sum
+slot 1 votes pos
 votes 2
 recovery 3
 walk 0:err 1:err

@@ -3,7 +3,7 @@
 ghost use Rattle.std.specs.Prelude.{◌≡◌, ◌<◌, length, IfOk};
 ghost use Rattle.rcp_model.specs.History.{History};
 ghost use Rattle.rcp_model.specs.FrameLimits.{IsFrameOf};
-ghost use Rattle.top_tests.specs.Frames.{CanFillNext, IsOfMotor};
+ghost use Rattle.top_tests.specs.Frames.{CanFillNext, IsAtStart, IsOfMotor};
 
 use crate::case::journal_of;
 use crate::files::MOTOR;
@@ -73,7 +73,8 @@ fn motor(rt: &impl Abort, alloc: Global) -> Result<Plan, Fail>
 // The rows before the first frame of a journal.
 fn begin(alloc: Global, plan: &Plan, journal: &Journal) -> Result<FrameIn, Memory>
     requires { (history : History) × IsAtStart plan.now history journal.now }
-    ensures { IfOk result (λ input. (history : History) × CanFillNext plan.now history journal.now input) }
+    ensures { IfOk result (λ input.
+        (history : History) × CanFillNext plan.now history journal.now input) }
 {
     FrameIn::new(alloc, plan)
 }
@@ -95,7 +96,8 @@ fn begin_again(
     input: &FrameIn,
 ) -> Result<FrameIn, Memory>
     requires { (history : History) × CanFillNext plan.now history journal.old input.now }
-    ensures { IfOk result (λ first. (history : History) × CanFillNext plan.now history journal.new first) }
+    ensures { IfOk result (λ first.
+        (history : History) × CanFillNext plan.now history journal.new first) }
 {
     journal.rewind();
     begin(alloc, plan, journal)

@@ -19,6 +19,11 @@ name = "out" => name = "n"
 n := n + 1; => n:=n+0001;
 n := n + 1; => let x = (n * 1); n := if(x < 3, x, 0);
 value = "n" => value = "clamp(n, 0, 9)"
+replicas = 3 => format = 1~replicas = 3
+replicas = 3 => format = 2~recovery_limit = 1~replicas = 3
+replicas = 3 => replicas = 3~recovery_limit = 2049~format = 2
+replicas = 3 => format = 2~replicas = 3 && initial = 0 => vote = "median", initial = 0
+replicas = 3 => format = 2~replicas = 3 && initial = 0 => initial = 0, vote = "majority"
 "#;
 
 // The same with the motor's file.
@@ -27,7 +32,18 @@ name = "motor" => name = "cmd"
 "#;
 
 // Parts of the counter's file, what stands in their place, and the fault that the file then has.
-const COUNTER_FAULTS: &str = r#"replicas = 3 => replicas = 10 => E03 replicas
+const COUNTER_FAULTS: &str = r#"replicas = 3 => format = 3~replicas = 10 => E03 format
+replicas = 3 => format = 0~replicas = 3 => E03 format
+replicas = 3 => format = "2"~replicas = 3 => E03 format
+replicas = 3 => format = 2~recovery_limit = 0~replicas = 10 => E03 replicas
+replicas = 3 => format = 2~recovery_limit = 0~replicas = 3 => E03 recovery_limit
+replicas = 3 => format = 2~recovery_limit = 2050~replicas = 3 => E03 recovery_limit
+replicas = 3 => format = 2~recovery_limit = "2"~replicas = 3 => E03 recovery_limit
+replicas = 3 => recovery_limit = 2~replicas = 3 => E03 ?
+initial = 0 => initial = 0, vote = "median" => E03 cell[0].?
+replicas = 3 => format = 2~replicas = 3 && initial = 0 => initial = 0, vote = "mean" => E03 cell[0].vote
+replicas = 3 => format = 2~replicas = 3 && initial = 0 => initial = 0, vote = 2 => E03 cell[0].vote
+replicas = 3 => replicas = 10 => E03 replicas
 replicas = 3 => replicas = 0 => E03 replicas
 replicas = 3 => replicas = "3" => E03 replicas
 replicas = 3 => speed = 1 => E03 replicas

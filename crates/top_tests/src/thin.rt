@@ -6,7 +6,7 @@ use crate::files::TWO_FRAMES;
 use std::alloc::Global;
 use std::test::Fail;
 
-// The motor with all three cells voted in both slots, and with its own votes, which are all needed.
+// The motor with all three cells voted in both slots, and with its own votes, which are all needed; then both with a limit.
 const THINNED: &str = r#"0 motor thin T
 | votes = ["sum"] => votes = ["sum", "pos", "err"]
 | votes = ["pos"] => votes = ["pos", "err", "sum"]
@@ -18,6 +18,48 @@ recovery 3
 walk 0:err 1:err
 
 0 motor thin T
+slot 0 votes sum
+slot 1 votes pos
+votes 2
+spared 0
+recovery 3
+walk 0:err 1:err
+
+0 motor thin T
+| replicas = 3 => format = 2~recovery_limit = 3~replicas = 3
+| votes = ["sum"] => votes = ["sum", "pos", "err"]
+| votes = ["pos"] => votes = ["pos", "err", "sum"]
+slot 0 votes -
+slot 1 votes pos sum
+votes 2
+spared 4
+recovery 3
+walk 0:err 1:err
+
+0 motor thin T
+| replicas = 3 => format = 2~recovery_limit = 2~replicas = 3
+| votes = ["sum"] => votes = ["sum", "pos", "err"]
+| votes = ["pos"] => votes = ["pos", "err", "sum"]
+slot 0 votes -
+slot 1 votes pos err sum
+votes 3
+spared 3
+recovery 2
+walk 0:pos
+
+0 motor thin T
+| replicas = 3 => format = 2~recovery_limit = 1~replicas = 3
+| votes = ["sum"] => votes = ["sum", "pos", "err"]
+| votes = ["pos"] => votes = ["pos", "err", "sum"]
+slot 0 votes pos err sum
+slot 1 votes pos err sum
+votes 6
+spared 0
+recovery 1
+walk -
+
+0 motor thin T
+| replicas = 3 => format = 2~recovery_limit = 2~replicas = 3
 slot 0 votes sum
 slot 1 votes pos
 votes 2

@@ -4,7 +4,7 @@ use Rattle.std.proofs.lemmas.List.{take_rest}
 use Rattle.std.proofs.KnownBytes.{Appends-trans}
 use Rattle.rcp_cli.proofs.sink.write_pieces.Goals as goal
 
--- the first n bytes of the rest move behind what is done
+-- the first n bytes of the rest move to what is done
 moves_front : (whole done rest : List ℕ) (n : ℕ) → whole ≡ done ++ rest → whole ≡ (done ++ take n rest) ++ take (length rest - n) (drop n rest)
 moves_front whole done rest n parts =
     parts

@@ -1,6 +1,5 @@
 -- The frame that is written is the one after which the processor stands, and what is left is to be written.
-use Rattle.std.proofs.Common.{◌+◌, ◌≡◌, ◌<◌, ◌≤◌, ℤ, List, IfOk, length, get_or, slice_get, Some, sym, ◌∙◌, subst, arith}
-use Rattle.std.proofs.lemmas.Result.{err_from_is_err_and}
+use Rattle.std.proofs.Common.{◌+◌, ◌≡◌, ◌<◌, ◌≤◌, ℤ, List, IfOk, length, sym, ◌∙◌, subst, arith}
 use Rattle.rcp_base.proofs.AddingLaws.{halfway_start, halfway_as, halfway_stop, halfway_last}
 use Rattle.rcp_top.specs.Lines.{end_line}
 use Rattle.rcp_top.specs.Ideal.{sensors_of_history}
@@ -24,13 +23,11 @@ returns-then-is_err g c history tells are =
     let plan = c.args.plan.now in
     let t = c.loop-t.t in
     let frames = sensors_of_history history in
-    let sensors = c.sensors.result.now in
     let so_far = c.loop-t.invariant.1 history tells are in
-    let more : t < length history = omega (arith, c.loop-t-test.true, c.frames-frames.ensures plan history tells) in
-    let next = frame_at plan history _ t _ c.fill.new.input sensors c.loop-t.invariant.0 are more so_far.rows (c.fill.ensures.rows plan history so_far.told) c.sensors.ensures in
+    let next = frame_at plan history _ t _ c.fill.new.input c.sensors.result.now c.loop-t.invariant.0 are (omega (arith, c.loop-t-test.true, c.frames-frames.ensures plan history tells)) so_far.rows (c.fill.ensures.rows plan history so_far.told) c.sensors.ensures in
     halfway_stop c.write_frame-so_far.result (sym c.is_err.ensures.value ∙ c.if-is_err.true)
-    (frame_more plan frames t sensors (g.S.Sink.state c.write_frame-so_far.new.out) c.write_frame-so_far.result next.below next.there so_far.text
-    (c.write_frame-so_far.ensures sensors (past_frames frames t) (c.frame.ensures plan (past_frames frames t) so_far.uni)))
+    (frame_more plan frames t c.sensors.result.now (g.S.Sink.state c.write_frame-so_far.new.out) c.write_frame-so_far.result next.below next.there so_far.text
+    (c.write_frame-so_far.ensures c.sensors.result.now (past_frames frames t) (c.frame.ensures plan (past_frames frames t) so_far.uni)))
 
 pub loop-t-preserved : goal.loop-t-preserved
 loop-t-preserved g c = (
@@ -39,18 +36,16 @@ loop-t-preserved g c = (
       let plan = c.args.plan.now in
       let t = c.loop-t.t in
       let frames = sensors_of_history history in
-      let sensors = c.sensors.result.now in
-      let so_far = c.loop-t.invariant.1 history tells are in
-      let more : t < length history = omega (arith, c.loop-t-test.true, c.frames-frames.ensures plan history tells) in
-        let next = frame_at plan history _ t _ c.fill.new.input sensors c.loop-t.invariant.0 are more so_far.rows (c.fill.ensures.rows plan history so_far.told) c.sensors.ensures in
+        let so_far = c.loop-t.invariant.1 history tells are in
+      let next = frame_at plan history _ t _ c.fill.new.input c.sensors.result.now c.loop-t.invariant.0 are (omega (arith, c.loop-t-test.true, c.frames-frames.ensures plan history tells)) so_far.rows (c.fill.ensures.rows plan history so_far.told) c.sensors.ensures in
       let stands = c.frame.ensures plan (past_frames frames t) so_far.uni in
       record {
         told = c.fill.ensures.history plan history so_far.told;
         rows = after_the_next plan history t c.fill.new.input are next.is;
-        uni = stands_after_next plan frames _ t sensors next.below next.there stands;
+        uni = stands_after_next plan frames _ t c.sensors.result.now next.below next.there stands;
         text =
-            frame_more plan frames t sensors (g.S.Sink.state c.write_frame-so_far.new.out) c.write_frame-so_far.result next.below next.there so_far.text
-            (c.write_frame-so_far.ensures sensors (past_frames frames t) stands);
+            frame_more plan frames t c.sensors.result.now (g.S.Sink.state c.write_frame-so_far.new.out) c.write_frame-so_far.result next.below next.there so_far.text
+            (c.write_frame-so_far.ensures c.sensors.result.now (past_frames frames t) stands);
       },
 )
 
