@@ -1,7 +1,9 @@
 -- What a row keeps that is accepted, and what all rows of a journal keep.
-use Rattle.std.proofs.Common.{◌≡◌, ℕ, suc, nat_le, inl, inr, ◌+◌, ◌<◌, ◌≤◌, List, [], ◌∷◌, length, Some, Ok, Err, ℤ, pos, negsuc, int_lt, int_le, Bool, true, false, not, ◌&&◌, if◌then◌else◌, All, AllPairs, sym, refl, ap, ◌∙◌, arith, subst}
+use Rattle.std.proofs.Common.{◌≡◌, ◌≢◌, ℕ, suc, nat_le, inl, inr, ◌+◌, ◌<◌, ◌≤◌, List, [], ◌∷◌, length, Some, Ok, Err, ℤ, pos, negsuc, int_lt, int_le, Bool, true, false, not, ◌&&◌, if◌then◌else◌, All, AllPairs, sym, refl, ap, ◌∙◌, arith, subst}
 use Rattle.std.specs.List.{list_any}
-use Rattle.std.proofs.lemmas.Bool.{cases_Bool}
+use Rattle.std.specs.Ordering.{int_eq}
+use Rattle.std.proofs.lemmas.Bool.{cases_Bool, true≢false}
+use Rattle.std.proofs.lemmas.Bool.Decides.{Decides-int_eq}
 use Rattle.std.proofs.lemmas.Int.{ints}
 use Rattle.std.proofs.lemmas.List.Elements.{All-nil, All-cons}
 use Rattle.std.proofs.lemmas.List.Kept.{AllPairs-cons}
@@ -87,6 +89,15 @@ natural-true : (count : ℕ) (x : ℤ) → is_below count x ≡ true → pos (na
 natural-true count (pos n) passes = refl
 natural-true count (negsuc n) passes = grind (arith, ints)
 
+-- two numbers from 0 on that are not the same, where a row is on a message
+apart_naturals : (count : ℕ) (message : Bool) (a b : ℤ) → is_below count a ≡ true → is_below count b ≡ true
+    → not (message && int_eq a b) ≡ true → message ≡ true → natural_of a ≢ natural_of b
+apart_naturals count false a b first second apart message same = cc
+apart_naturals count true a b first second apart message same =
+    let equal : a ≡ b = sym (natural-true count a first) ∙ ap pos same ∙ natural-true count b second in
+    let test : int_eq a b ≡ true = (Decides-int_eq a b).1 equal in
+    true≢false (sym apart ∙ ap not test)
+
 -- the number of frames, which is more than 0
 frames-true : (x : ℤ) → (int_le (pos 1) x && int_le x (pos 1_000_000)) ≡ true → (natural_of x ≤ 1_000_000) × (pos (natural_of x) ≡ x)
 frames-true (pos n) passes = (grind (arith, ints), refl)
@@ -146,6 +157,7 @@ accepted_itself plan before written reads order limits =
             receiver = receiver_below plan (is_on_a_message written.kind) written.receiver reads.receiver (below-true plan.replicas written.receiver tests.2);
             item = reads.item;
             value = tests.4;
+            apart = apart_naturals plan.replicas (is_on_a_message written.kind) written.replica written.receiver tests.1 tests.2 tests.3;
           };
       few = frame.few;
       behind = behind_written before written order frame.natural;

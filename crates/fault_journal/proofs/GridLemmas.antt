@@ -1,8 +1,8 @@
 -- Tables of which one entry is another one, and those of which all entries are one.
-use Rattle.std.proofs.Common.{◌≡◌, ◌≢◌, ℕ, ◌+◌, ◌*◌, ◌/◌, ◌%◌, ◌<◌, length, get_or, set, replicate, sym, ap, ◌∙◌, inl, inr, arith, length-set, get_or-set_same, get_or-set_other, ext_get_or, div-add-mod', mul_comm, subst, Bool, true, false, nat_lt, if◌then◌else◌}
+use Rattle.std.proofs.Common.{◌≡◌, ◌≢◌, ℕ, ◌+◌, ◌*◌, ◌/◌, ◌%◌, ◌<◌, length, get_or, set, replicate, sym, ap, ◌∙◌, inl, inr, arith, length-set, get_or-set_same, get_or-set_other, ext_get_or, div-add-mod', mul_comm, subst, Bool, true, false, nat_lt, if◌then◌else◌, Option, None}
 use Rattle.std.proofs.lemmas.List.{length-replicate, get_or-replicate, get_or_past}
 use Rattle.std.proofs.lemmas.Nat.{mul-add-lt, div-mul-add, mod-mul-add}
-use Rattle.std.proofs.lemmas.Bool.{cases_eq, cases_lt}
+use Rattle.std.proofs.lemmas.Bool.{cases_eq, cases_lt, cond-true, cond-false, lt-ltb, le-ltb}
 use Rattle.rcp_base.specs.Tables.{table}
 use Rattle.rcp_base.proofs.TableLaws.{length-table, get_or-table}
 use Rattle.rcp_model.specs.FrameRows.{entry_at}
@@ -59,3 +59,35 @@ at_grid P rows columns f r c d each none = elim (nat_lt c columns) as (λ (b : B
   | true ↦ at_table P (rows * columns) (λ place. f (place / columns) (place % columns)) (r * columns + c) d (λ place. each (place / columns) (place % columns)) none
   | false ↦ none
 ]
+
+-- the entry of a grid at its own place, where that is what stands where there is none
+pub at_own : {X : Type 0} (f : ℕ → ℕ → X) (n p : ℕ) (d : X) → f p p ≡ d → entry_at n (grid n n f) p p d ≡ d
+unfolding entry_at
+at_own f n p d own =
+    elim (cases_lt p n) [
+      | inl inside ↦
+          cond-true (nat_lt p n) _ d (lt-ltb p n inside)
+          ∙ get_or-table (n * n) (λ place. f (place / n) (place % n)) (p * n + p) d (mul-add-lt p n p n inside inside)
+          ∙ rw (div-mul-add p n p inside, mod-mul-add p n p inside) own
+      | inr past ↦ cond-false (nat_lt p n) _ d (le-ltb p n past)
+    ]
+
+-- the same of a grid by pairs and cells
+pub at_own_lie : {X : Type 0} (n cells : ℕ) (f : ℕ → ℕ → ℕ → Option X) (p cell : ℕ) → f p p cell ≡ None
+    → (if nat_lt p n then entry_at cells (grid (n * n) cells (λ pair c. f (pair / n) (pair % n) c)) (p * n + p) cell None else None) ≡ None
+unfolding entry_at
+at_own_lie n cells f p cell own =
+    elim (cases_lt p n) [
+      | inr past ↦ cond-false (nat_lt p n) _ None (le-ltb p n past)
+      | inl inside ↦
+          cond-true (nat_lt p n) _ None (lt-ltb p n inside)
+          ∙ elim (cases_lt cell cells) [
+            | inr past ↦ cond-false (nat_lt cell cells) _ None (le-ltb cell cells past)
+            | inl within ↦
+                let pair : p * n + p < n * n = mul-add-lt p n p n inside inside in
+                cond-true (nat_lt cell cells) _ None (lt-ltb cell cells within)
+                ∙ get_or-table (n * n * cells) (λ place. f (place / cells / n) (place / cells % n) (place % cells)) ((p * n + p) * cells + cell) None
+                (rw (mul_comm (n * n) cells) (mul-add-lt (p * n + p) cells cell (n * n) pair within))
+                ∙ rw (div-mul-add (p * n + p) cells cell within, mod-mul-add (p * n + p) cells cell within) (rw (div-mul-add p n p inside, mod-mul-add p n p inside) own)
+          ]
+    ]

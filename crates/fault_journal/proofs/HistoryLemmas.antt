@@ -4,8 +4,7 @@ use Rattle.rcp_base.specs.Tables.{table}
 use Rattle.rcp_base.proofs.TableLaws.{length-table, get_or-table}
 use Rattle.rcp_model.specs.declared.plan.PlanParts.{PlanParts}
 use Rattle.rcp_model.specs.Plan.{IsPlan}
-use Rattle.rcp_model.specs.FrameRows.{AreRowsOf}
-use Rattle.rcp_model.specs.FrameLimits.{AreWithinLimits}
+use Rattle.rcp_model.specs.FrameLimits.{IsFrameOf}
 use Rattle.layer_stack.specs.Inputs.{IsHistoryOf}
 use Rattle.fault_journal.specs.Journal.{JournalRows, journal_rows}
 use Rattle.fault_journal.specs.History.{frame_of, history_of, journal_verdict}
@@ -27,8 +26,11 @@ history_of-is_of_plan plan journal is_plan rows =
     let lengths = length-table journal.frames f in
     record {
       few = omega (arith, lengths, rows.few);
-      rows = All-table (AreRowsOf plan) journal.frames f (frame_of-is_of_plan plan journal.rows);
-      limits = All-table (AreWithinLimits plan) journal.frames f (λ frame. frame_of-is_within_limits plan journal.rows frame is_plan rows.rows);
+      frames =
+          All-table (IsFrameOf plan) journal.frames f (λ frame. record {
+            tables = frame_of-is_of_plan plan journal.rows frame;
+            limits = frame_of-is_within_limits plan journal.rows frame is_plan rows.rows;
+          });
     }
 
 pub journals_give_histories : JournalsGiveHistories

@@ -167,7 +167,7 @@ pub can_go_on : (journal : Journal) (plan : PlanParts) (history : History) (rows
     → CanGoOn plan journal rows
 can_go_on journal plan history rows tells can = record {
   over = tells.over;
-  rows_of_plan = can.rows_of_plan;
+  rows_of_plan = can.rows_of_plan.tables;
   initial = λ first. can.sensors ∙ ap (λ (done : ℕ). sensors_after plan (past_of history done)) first;
   sensors =
       λ before next.

@@ -1,5 +1,6 @@
 -- The frames of a journal whose rows are those of a plan are frames of the plan, within the limits.
-use Rattle.std.proofs.Common.{◌≡◌, ℕ, ◌<◌, List, [], ◌∷◌, Option, Some, None, option_map, unwrap_or, find, cond, ℤ, pos, negsuc, ◌≤ℤ◌, Bool, true, false, ◌&&◌, if◌then◌else◌, All, sym, refl, ap, ap₂, ◌∙◌, arith, eqb-true, nat_eq}
+use Rattle.std.proofs.Common.{◌≡◌, ℕ, ◌<◌, List, [], ◌∷◌, Option, Some, None, option_map, unwrap_or, find, cond, ℤ, pos, negsuc, ◌≤ℤ◌, Bool, true, false, ◌&&◌, if◌then◌else◌, All, sym, refl, ap, ap₂, ◌∙◌, arith, eqb-true, nat_eq, length}
+use Rattle.std.specs.Prelude.{is_some}
 use Rattle.std.proofs.lemmas.Int.{ints}
 use Rattle.std.proofs.lemmas.List.Elements.{All-head, All-tail}
 use Rattle.rcp_base.proofs.TableLaws.{length-table}
@@ -7,16 +8,16 @@ use Rattle.rcp_model.specs.declared.plan.PlanParts.{PlanParts}
 use Rattle.rcp_model.specs.Plan.{IsPlan}
 use Rattle.rcp_model.specs.Slot.{slot_count}
 use Rattle.rcp_model.specs.TimingRules.{delay_limit_of}
-use Rattle.rcp_model.specs.FrameRows.{AreRowsOf, slot_row, lie_slot_row, skew_of, rate_of, delay_of}
-use Rattle.rcp_model.specs.FrameLimits.{AreWithinLimits, IsWithin}
+use Rattle.rcp_model.specs.FrameRows.{AreRowsOf, slot_row, lie_row, lie_slot_row, is_dropped, skew_of, rate_of, delay_of}
+use Rattle.rcp_model.specs.FrameLimits.{AreWithinLimits, IsUntouchedByItself, IsWithin}
 use Rattle.fault_journal.specs.declared.row.Kind.{Kind}
 use Rattle.fault_journal.specs.declared.row.Kind.TheVariants as kind
 use Rattle.fault_journal.specs.declared.row.Row.{Row}
 use Rattle.fault_journal.specs.Journal.{kind_number, same_kind}
-use Rattle.fault_journal.specs.Limits.{natural_of, value_is_permitted, is_below, is_within, is_up_to}
+use Rattle.fault_journal.specs.Limits.{natural_of, is_on_a_message, value_is_permitted, is_below, is_within, is_up_to}
 use Rattle.fault_journal.specs.History.{said, speaks_of, frame_of}
 use Rattle.fault_journal.specs.Filling.{IsRowOf}
-use Rattle.fault_journal.proofs.GridLemmas.{at_table, at_grid}
+use Rattle.fault_journal.proofs.GridLemmas.{at_table, at_grid, at_own, at_own_lie}
 
 -- a frame of a plan
 pub frame_of-is_of_plan : (plan : PlanParts) (rows : List Row) (frame : ℕ) → AreRowsOf plan (frame_of plan rows frame)
@@ -150,6 +151,60 @@ delay-within limit usual (Some value) possible permitted =
     let fact : is_up_to limit value ≡ true = permitted value refl in
     grind (arith, ints)
 
+-- nothing is said of what a replica says to itself
+none_more : (row : Row) (test : Bool) (rest : Option Row) → (test ≡ true → ⊥)
+    → option_map (λ (r : Row). r.value) rest ≡ None → option_map (λ (r : Row). r.value) (cond test (Some row) rest) ≡ None
+none_more row true rest never none = absurd (never refl)
+none_more row false rest never none = none
+
+record SpeaksOf (kind : Kind) (replica receiver : ℕ) (row : Row) : Type 0 where
+  kind_is : row.kind ≡ kind
+  replica_is : row.replica ≡ replica
+  receiver_is : row.receiver ≡ receiver
+
+spoken_of : (frame : ℕ) (kind : Kind) (replica receiver item : ℕ) (row : Row) → speaks_of frame kind replica receiver item row ≡ true
+    → SpeaksOf kind replica receiver row
+spoken_of frame kind replica receiver item row passes =
+    let tests = five_parts _ _ _ _ _ passes in
+    record {
+      kind_is = same_kind-true row.kind kind tests.1;
+      replica_is = eqb-true row.replica replica tests.2;
+      receiver_is = eqb-true row.receiver receiver tests.3;
+    }
+  where
+    five_parts : (a b c d e : Bool) → (a && b && c && d && e) ≡ true → (a ≡ true) × (b ≡ true) × (c ≡ true) × (d ≡ true) × (e ≡ true)
+    five_parts true true true true e passes = (refl, refl, refl, refl, passes)
+    five_parts true true true false e passes = cc
+    five_parts true true false d e passes = cc
+    five_parts true false c d e passes = cc
+    five_parts false b c d e passes = cc
+
+said-to_itself : (plan : PlanParts) (rows : List Row) (frame : ℕ) (kind : Kind) (replica item : ℕ)
+    → is_on_a_message kind ≡ true → All (IsRowOf plan) rows → said rows frame kind replica replica item ≡ None
+said-to_itself plan [] frame kind replica item message of_plan = refl
+said-to_itself plan (row ∷ rows) frame kind replica item message of_plan =
+    none_more row (speaks_of frame kind replica replica item row) (find (speaks_of frame kind replica replica item) rows)
+    (λ yes.
+    let speaks = spoken_of frame kind replica replica item row yes in
+    (All-head (IsRowOf plan) row rows of_plan).apart (ap is_on_a_message speaks.kind_is ∙ message) (speaks.replica_is ∙ sym speaks.receiver_is))
+    (said-to_itself plan rows frame kind replica item message (All-tail (IsRowOf plan) row rows of_plan))
+
+-- so no row of a frame touches what a replica says to itself
+own_of : (plan : PlanParts) (rows : List Row) (frame : ℕ) → All (IsRowOf plan) rows → (p : ℕ) → IsUntouchedByItself (frame_of plan rows frame) p
+unfolding frame_of lie_row lie_slot_row is_dropped delay_of
+own_of plan rows frame of_plan p =
+    let silent = λ (kind : Kind) (i : ℕ) (message : is_on_a_message kind ≡ true). said-to_itself plan rows frame kind p i message of_plan in
+    record {
+      lie_slot =
+          at_own (λ p q. option_map natural_of (said rows frame kind.LieSlot p q 0)) plan.replicas p None
+          (ap (option_map natural_of) (silent kind.LieSlot 0 refl));
+      drop = at_own (λ p q. is_some (said rows frame kind.Drop p q 0)) plan.replicas p false (ap is_some (silent kind.Drop 0 refl));
+      delay =
+          at_own (λ p q. unwrap_or (said rows frame kind.Delay p q 0) plan.timing.delay_min) plan.replicas p plan.timing.delay_min
+          (ap (λ said. unwrap_or said plan.timing.delay_min) (silent kind.Delay 0 refl));
+      lie = λ cell. at_own_lie plan.replicas (length plan.cells) (λ p q c. said rows frame kind.Lie p q c) p cell (silent kind.Lie cell refl);
+    }
+
 -- so the frame is within the limits
 pub frame_of-is_within_limits : (plan : PlanParts) (rows : List Row) (frame : ℕ) → IsPlan plan → All (IsRowOf plan) rows
     → AreWithinLimits plan (frame_of plan rows frame)
@@ -168,6 +223,7 @@ frame_of-is_within_limits plan rows frame is_plan of_plan =
           (λ p. said-within plan.timing.skew_limit (said rows frame kind.Skew p 0 0) range.skew_limit.0 (at kind.Skew p 0 0)) (said-within plan.timing.skew_limit None range.skew_limit.0 (λ value is. cc));
       rate = λ replica. at_table (IsWithin plan.timing.drift_limit_ppm) plan.replicas (λ p. unwrap_or (said rows frame kind.Rate p 0 0) (pos 0)) replica (pos 0)
           (λ p. said-within plan.timing.drift_limit_ppm (said rows frame kind.Rate p 0 0) range.drift_limit_ppm.0 (at kind.Rate p 0 0)) (said-within plan.timing.drift_limit_ppm None range.drift_limit_ppm.0 (λ value is. cc));
+      own = own_of plan rows frame of_plan;
       delay = λ sender receiver. at_grid (IsDelay (delay_limit_of plan.timing)) plan.replicas plan.replicas (λ p q. unwrap_or (said rows frame kind.Delay p q 0) plan.timing.delay_min) sender receiver plan.timing.delay_min
           (λ p q. delay-within (delay_limit_of plan.timing) plan.timing.delay_min (said rows frame kind.Delay p q 0) least (at kind.Delay p q 0)) least;
     }

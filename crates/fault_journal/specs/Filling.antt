@@ -1,5 +1,5 @@
 -- What a row changes in the rows of its frame, and what a row of a plan keeps. This project's own.
-use Rattle.std.specs.Prelude.{◌≡◌, ◌<◌, ℕ, true, List, [], ◌∷◌, length, if◌then◌else◌}
+use Rattle.std.specs.Prelude.{◌≡◌, ◌≢◌, ◌<◌, ℕ, true, List, [], ◌∷◌, length, if◌then◌else◌}
 use Rattle.rcp_model.specs.declared.plan.PlanParts.{PlanParts}
 use Rattle.rcp_model.specs.Plan.{IsPlan}
 use Rattle.rcp_model.specs.FrameRows.{FrameRows, AreRowsOf}
@@ -52,6 +52,7 @@ pub record IsRowOf (plan : PlanParts) (row : Row) : Type 0 where
   pub receiver : row.receiver < receiver_count plan row.kind
   pub item : row.item < item_count plan row.kind
   pub value : value_is_permitted plan row.kind row.value ≡ true
+  pub apart : is_on_a_message row.kind ≡ true → row.replica ≢ row.receiver
 
 -- rows of a plan can be put into these rows of a frame
 pub record CanTake (plan : PlanParts) (rows : FrameRows) : Type 0 where

@@ -31,7 +31,8 @@ pub struct Journal {
 impl Journal {
     /// The journal that bytes hold, before its first frame, or the first test that they fail.
     pub fn check(alloc: Global, plan: &Plan, bytes: &[u8]) -> Result<Journal, JournalFault>
-        ensures verdict { IfOk result (λ journal. journal_verdict plan.now bytes.now ≡ Ok (history_in plan.now journal)) }
+        ensures verdict { IfOk result (λ journal.
+            journal_verdict plan.now bytes.now ≡ Ok (history_in plan.now journal)) }
         ensures journal { IfOk result (IsJournalOf plan.now) }
         ensures fault { IfErr result (λ fault. IsFault fault (journal_verdict plan.now bytes.now)) }
     {
@@ -46,7 +47,8 @@ impl Journal {
 
     /// Goes back to before the first frame.
     pub fn rewind(&mut self)
-        ensures tells { (plan : PlanParts) (history : History) → Tells self.old plan history → Tells self.new plan history }
+        ensures tells { (plan : PlanParts) (history : History)
+            → Tells self.old plan history → Tells self.new plan history }
         ensures done { self.new.done ≡ 0 }
     {
         self.place = 0;
@@ -101,7 +103,7 @@ fn count_of_frame(rows: &[Row], frame: u32) -> usize
     rows.len()
 }
 
-// Puts rows into a frame, one behind the other.
+// Puts rows into a frame, one after the other.
 fn put_rows(input: &mut FrameIn, rows: &[Row])
     requires ready { (plan : PlanParts) × CanTake plan input.old × All (IsRowOf plan) rows.now }
     ensures { input.new ≡ put_all input.old rows.now }
@@ -115,8 +117,7 @@ fn put_rows(input: &mut FrameIn, rows: &[Row])
 #[tactic(auto, unfolding(crate::specs::Filling::put_row))]
 fn put(input: &mut FrameIn, row: &Row)
     requires ready { (plan : PlanParts) × CanTake plan input.old × IsRowOf plan row.now }
-    ensures row { input.new ≡ put_row input.old row.now }
-    ensures of_plan { (plan : PlanParts) → AreRowsOf plan input.old → AreRowsOf plan input.new }
+    ensures { input.new ≡ put_row input.old row.now }
 {
     let replica = u32::from(row.replica);
     let receiver = u32::from(row.receiver);

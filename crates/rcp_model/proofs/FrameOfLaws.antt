@@ -23,6 +23,172 @@ of_sizes plan rows new are tables r c a d s = record {
   tables = tables;
 }
 
+module _ (plan : PlanParts) (rows : FrameRows) (are : AreRowsOf plan rows) where
+  pub sensor_rows : (sensor : ℕ) (value : ℤ) → AreRowsOf plan (with_sensor rows sensor value)
+  unfolding with_sensor
+  sensor_rows sensor value = of_sizes plan rows _ are (record {
+    downs = are.tables.downs;
+    slots = are.tables.slots;
+    skews = are.tables.skews;
+    rates = are.tables.rates;
+    cell_values = are.tables.cell_values;
+    acts = are.tables.acts;
+    lie_slots = are.tables.lie_slots;
+    drops = are.tables.drops;
+    delays = are.tables.delays;
+    lies = are.tables.lies;
+  }) refl refl refl refl (length-set rows.sensors sensor value)
+
+  pub down_rows : (p : ℕ) → AreRowsOf plan (with_down rows p)
+  unfolding with_down
+  down_rows p = of_sizes plan rows _ are (record {
+    downs = length-set _ _ _ ∙ are.tables.downs;
+    slots = are.tables.slots;
+    skews = are.tables.skews;
+    rates = are.tables.rates;
+    cell_values = are.tables.cell_values;
+    acts = are.tables.acts;
+    lie_slots = are.tables.lie_slots;
+    drops = are.tables.drops;
+    delays = are.tables.delays;
+    lies = are.tables.lies;
+  }) refl refl refl refl refl
+
+  pub slot_rows : (p slot : ℕ) → AreRowsOf plan (with_slot rows p slot)
+  unfolding with_slot
+  slot_rows p slot = of_sizes plan rows _ are (record {
+    downs = are.tables.downs;
+    slots = length-set _ _ _ ∙ are.tables.slots;
+    skews = are.tables.skews;
+    rates = are.tables.rates;
+    cell_values = are.tables.cell_values;
+    acts = are.tables.acts;
+    lie_slots = are.tables.lie_slots;
+    drops = are.tables.drops;
+    delays = are.tables.delays;
+    lies = are.tables.lies;
+  }) refl refl refl refl refl
+
+  pub cell_rows : (p c : ℕ) (x : ℤ) → AreRowsOf plan (with_cell rows p c x)
+  unfolding with_cell
+  cell_rows p c x = of_sizes plan rows _ are (record {
+    downs = are.tables.downs;
+    slots = are.tables.slots;
+    skews = are.tables.skews;
+    rates = are.tables.rates;
+    cell_values = length-set _ _ _ ∙ are.tables.cell_values;
+    acts = are.tables.acts;
+    lie_slots = are.tables.lie_slots;
+    drops = are.tables.drops;
+    delays = are.tables.delays;
+    lies = are.tables.lies;
+  }) refl refl refl refl refl
+
+  pub act_rows : (p n : ℕ) (x : ℤ) → AreRowsOf plan (with_act rows p n x)
+  unfolding with_act
+  act_rows p n x = of_sizes plan rows _ are (record {
+    downs = are.tables.downs;
+    slots = are.tables.slots;
+    skews = are.tables.skews;
+    rates = are.tables.rates;
+    cell_values = are.tables.cell_values;
+    acts = length-set _ _ _ ∙ are.tables.acts;
+    lie_slots = are.tables.lie_slots;
+    drops = are.tables.drops;
+    delays = are.tables.delays;
+    lies = are.tables.lies;
+  }) refl refl refl refl refl
+
+  pub skew_rows : (p : ℕ) (x : ℤ) → AreRowsOf plan (with_skew rows p x)
+  unfolding with_skew
+  skew_rows p x = of_sizes plan rows _ are (record {
+    downs = are.tables.downs;
+    slots = are.tables.slots;
+    skews = length-set _ _ _ ∙ are.tables.skews;
+    rates = are.tables.rates;
+    cell_values = are.tables.cell_values;
+    acts = are.tables.acts;
+    lie_slots = are.tables.lie_slots;
+    drops = are.tables.drops;
+    delays = are.tables.delays;
+    lies = are.tables.lies;
+  }) refl refl refl refl refl
+
+  pub rate_rows : (p : ℕ) (x : ℤ) → AreRowsOf plan (with_rate rows p x)
+  unfolding with_rate
+  rate_rows p x = of_sizes plan rows _ are (record {
+    downs = are.tables.downs;
+    slots = are.tables.slots;
+    skews = are.tables.skews;
+    rates = length-set _ _ _ ∙ are.tables.rates;
+    cell_values = are.tables.cell_values;
+    acts = are.tables.acts;
+    lie_slots = are.tables.lie_slots;
+    drops = are.tables.drops;
+    delays = are.tables.delays;
+    lies = are.tables.lies;
+  }) refl refl refl refl refl
+
+  pub lie_slot_rows : (p q slot : ℕ) → AreRowsOf plan (with_lie_slot rows p q slot)
+  unfolding with_lie_slot
+  lie_slot_rows p q slot = of_sizes plan rows _ are (record {
+    downs = are.tables.downs;
+    slots = are.tables.slots;
+    skews = are.tables.skews;
+    rates = are.tables.rates;
+    cell_values = are.tables.cell_values;
+    acts = are.tables.acts;
+    lie_slots = length-set _ _ _ ∙ are.tables.lie_slots;
+    drops = are.tables.drops;
+    delays = are.tables.delays;
+    lies = are.tables.lies;
+  }) refl refl refl refl refl
+
+  pub drop_rows : (p q : ℕ) → AreRowsOf plan (with_drop rows p q)
+  unfolding with_drop
+  drop_rows p q = of_sizes plan rows _ are (record {
+    downs = are.tables.downs;
+    slots = are.tables.slots;
+    skews = are.tables.skews;
+    rates = are.tables.rates;
+    cell_values = are.tables.cell_values;
+    acts = are.tables.acts;
+    lie_slots = are.tables.lie_slots;
+    drops = length-set _ _ _ ∙ are.tables.drops;
+    delays = are.tables.delays;
+    lies = are.tables.lies;
+  }) refl refl refl refl refl
+
+  pub delay_rows : (p q : ℕ) (x : ℤ) → AreRowsOf plan (with_delay rows p q x)
+  unfolding with_delay
+  delay_rows p q x = of_sizes plan rows _ are (record {
+    downs = are.tables.downs;
+    slots = are.tables.slots;
+    skews = are.tables.skews;
+    rates = are.tables.rates;
+    cell_values = are.tables.cell_values;
+    acts = are.tables.acts;
+    lie_slots = are.tables.lie_slots;
+    drops = are.tables.drops;
+    delays = length-set _ _ _ ∙ are.tables.delays;
+    lies = are.tables.lies;
+  }) refl refl refl refl refl
+
+  pub lie_rows : (p q c : ℕ) (x : ℤ) → AreRowsOf plan (with_lie rows p q c x)
+  unfolding with_lie
+  lie_rows p q c x = of_sizes plan rows _ are (record {
+    downs = are.tables.downs;
+    slots = are.tables.slots;
+    skews = are.tables.skews;
+    rates = are.tables.rates;
+    cell_values = are.tables.cell_values;
+    acts = are.tables.acts;
+    lie_slots = are.tables.lie_slots;
+    drops = are.tables.drops;
+    delays = are.tables.delays;
+    lies = length-set _ _ _ ∙ are.tables.lies;
+  }) refl refl refl refl refl
+
 module _ (plan : PlanParts) (rows : FrameRows) (h : IsFrameOf plan rows) where
   same_tables : AreTables rows
   same_tables = h.tables.tables
@@ -30,198 +196,77 @@ module _ (plan : PlanParts) (rows : FrameRows) (h : IsFrameOf plan rows) where
   pub sensor_kept : (sensor : ℕ) (value : ℤ) → IsFrameOf plan (with_sensor rows sensor value)
   unfolding with_sensor
   sensor_kept sensor value = record {
-    tables = of_sizes plan rows _ h.tables (record {
-      downs = same_tables.downs;
-      slots = same_tables.slots;
-      skews = same_tables.skews;
-      rates = same_tables.rates;
-      cell_values = same_tables.cell_values;
-      acts = same_tables.acts;
-      lie_slots = same_tables.lie_slots;
-      drops = same_tables.drops;
-      delays = same_tables.delays;
-      lies = same_tables.lies;
-    }) refl refl refl refl (length-set rows.sensors sensor value);
+    tables = sensor_rows plan rows h.tables sensor value;
     limits = sensor_within plan rows same_tables h.limits sensor value;
   }
 
   pub down_kept : (p : ℕ) → p < rows.replicas → IsFrameOf plan (with_down rows p)
   unfolding with_down
   down_kept p a = record {
-    tables = of_sizes plan rows _ h.tables (record {
-      downs = length-set _ _ _ ∙ same_tables.downs;
-      slots = same_tables.slots;
-      skews = same_tables.skews;
-      rates = same_tables.rates;
-      cell_values = same_tables.cell_values;
-      acts = same_tables.acts;
-      lie_slots = same_tables.lie_slots;
-      drops = same_tables.drops;
-      delays = same_tables.delays;
-      lies = same_tables.lies;
-    }) refl refl refl refl refl;
+    tables = down_rows plan rows h.tables p;
     limits = down_within plan rows same_tables h.limits p a;
   }
 
   pub slot_kept : (p slot : ℕ) → p < rows.replicas → slot < slot_count plan → IsFrameOf plan (with_slot rows p slot)
   unfolding with_slot
   slot_kept p slot a b = record {
-    tables = of_sizes plan rows _ h.tables (record {
-      downs = same_tables.downs;
-      slots = length-set _ _ _ ∙ same_tables.slots;
-      skews = same_tables.skews;
-      rates = same_tables.rates;
-      cell_values = same_tables.cell_values;
-      acts = same_tables.acts;
-      lie_slots = same_tables.lie_slots;
-      drops = same_tables.drops;
-      delays = same_tables.delays;
-      lies = same_tables.lies;
-    }) refl refl refl refl refl;
+    tables = slot_rows plan rows h.tables p slot;
     limits = slot_within plan rows same_tables h.limits p slot a b;
   }
 
   pub cell_kept : (p c : ℕ) (x : ℤ) → p < rows.replicas → c < rows.cells → IsFrameOf plan (with_cell rows p c x)
   unfolding with_cell
   cell_kept p c x a b = record {
-    tables = of_sizes plan rows _ h.tables (record {
-      downs = same_tables.downs;
-      slots = same_tables.slots;
-      skews = same_tables.skews;
-      rates = same_tables.rates;
-      cell_values = length-set _ _ _ ∙ same_tables.cell_values;
-      acts = same_tables.acts;
-      lie_slots = same_tables.lie_slots;
-      drops = same_tables.drops;
-      delays = same_tables.delays;
-      lies = same_tables.lies;
-    }) refl refl refl refl refl;
+    tables = cell_rows plan rows h.tables p c x;
     limits = cell_within plan rows same_tables h.limits p c x a b;
   }
 
   pub act_kept : (p n : ℕ) (x : ℤ) → p < rows.replicas → n < rows.actuators → IsFrameOf plan (with_act rows p n x)
   unfolding with_act
   act_kept p n x a b = record {
-    tables = of_sizes plan rows _ h.tables (record {
-      downs = same_tables.downs;
-      slots = same_tables.slots;
-      skews = same_tables.skews;
-      rates = same_tables.rates;
-      cell_values = same_tables.cell_values;
-      acts = length-set _ _ _ ∙ same_tables.acts;
-      lie_slots = same_tables.lie_slots;
-      drops = same_tables.drops;
-      delays = same_tables.delays;
-      lies = same_tables.lies;
-    }) refl refl refl refl refl;
+    tables = act_rows plan rows h.tables p n x;
     limits = act_within plan rows same_tables h.limits p n x a b;
   }
 
   pub skew_kept : (p : ℕ) (x : ℤ) → p < rows.replicas → IsWithin plan.timing.skew_limit x → IsFrameOf plan (with_skew rows p x)
   unfolding with_skew
   skew_kept p x a b = record {
-    tables = of_sizes plan rows _ h.tables (record {
-      downs = same_tables.downs;
-      slots = same_tables.slots;
-      skews = length-set _ _ _ ∙ same_tables.skews;
-      rates = same_tables.rates;
-      cell_values = same_tables.cell_values;
-      acts = same_tables.acts;
-      lie_slots = same_tables.lie_slots;
-      drops = same_tables.drops;
-      delays = same_tables.delays;
-      lies = same_tables.lies;
-    }) refl refl refl refl refl;
+    tables = skew_rows plan rows h.tables p x;
     limits = skew_within plan rows same_tables h.limits p x a b;
   }
 
   pub rate_kept : (p : ℕ) (x : ℤ) → p < rows.replicas → IsWithin plan.timing.drift_limit_ppm x → IsFrameOf plan (with_rate rows p x)
   unfolding with_rate
   rate_kept p x a b = record {
-    tables = of_sizes plan rows _ h.tables (record {
-      downs = same_tables.downs;
-      slots = same_tables.slots;
-      skews = same_tables.skews;
-      rates = length-set _ _ _ ∙ same_tables.rates;
-      cell_values = same_tables.cell_values;
-      acts = same_tables.acts;
-      lie_slots = same_tables.lie_slots;
-      drops = same_tables.drops;
-      delays = same_tables.delays;
-      lies = same_tables.lies;
-    }) refl refl refl refl refl;
+    tables = rate_rows plan rows h.tables p x;
     limits = rate_within plan rows same_tables h.limits p x a b;
   }
 
   pub lie_slot_kept : (p q slot : ℕ) → p < rows.replicas → q < rows.replicas → p ≢ q → slot < slot_count plan → IsFrameOf plan (with_lie_slot rows p q slot)
   unfolding with_lie_slot
   lie_slot_kept p q slot a b d e = record {
-    tables = of_sizes plan rows _ h.tables (record {
-      downs = same_tables.downs;
-      slots = same_tables.slots;
-      skews = same_tables.skews;
-      rates = same_tables.rates;
-      cell_values = same_tables.cell_values;
-      acts = same_tables.acts;
-      lie_slots = length-set _ _ _ ∙ same_tables.lie_slots;
-      drops = same_tables.drops;
-      delays = same_tables.delays;
-      lies = same_tables.lies;
-    }) refl refl refl refl refl;
+    tables = lie_slot_rows plan rows h.tables p q slot;
     limits = lie_slot_within plan rows same_tables h.limits p q slot a b d e;
   }
 
   pub drop_kept : (p q : ℕ) → p < rows.replicas → q < rows.replicas → p ≢ q → IsFrameOf plan (with_drop rows p q)
   unfolding with_drop
   drop_kept p q a b d = record {
-    tables = of_sizes plan rows _ h.tables (record {
-      downs = same_tables.downs;
-      slots = same_tables.slots;
-      skews = same_tables.skews;
-      rates = same_tables.rates;
-      cell_values = same_tables.cell_values;
-      acts = same_tables.acts;
-      lie_slots = same_tables.lie_slots;
-      drops = length-set _ _ _ ∙ same_tables.drops;
-      delays = same_tables.delays;
-      lies = same_tables.lies;
-    }) refl refl refl refl refl;
+    tables = drop_rows plan rows h.tables p q;
     limits = drop_within plan rows same_tables h.limits p q a b d;
   }
 
   pub delay_kept : (p q : ℕ) (x : ℤ) → p < rows.replicas → q < rows.replicas → p ≢ q → IsDelayOf plan x → IsFrameOf plan (with_delay rows p q x)
   unfolding with_delay
   delay_kept p q x a b d e = record {
-    tables = of_sizes plan rows _ h.tables (record {
-      downs = same_tables.downs;
-      slots = same_tables.slots;
-      skews = same_tables.skews;
-      rates = same_tables.rates;
-      cell_values = same_tables.cell_values;
-      acts = same_tables.acts;
-      lie_slots = same_tables.lie_slots;
-      drops = same_tables.drops;
-      delays = length-set _ _ _ ∙ same_tables.delays;
-      lies = same_tables.lies;
-    }) refl refl refl refl refl;
+    tables = delay_rows plan rows h.tables p q x;
     limits = delay_within plan rows same_tables h.limits p q x a b d e;
   }
 
   pub lie_kept : (p q c : ℕ) (x : ℤ) → p < rows.replicas → q < rows.replicas → c < rows.cells → p ≢ q → IsFrameOf plan (with_lie rows p q c x)
   unfolding with_lie
   lie_kept p q c x a b d e = record {
-    tables = of_sizes plan rows _ h.tables (record {
-      downs = same_tables.downs;
-      slots = same_tables.slots;
-      skews = same_tables.skews;
-      rates = same_tables.rates;
-      cell_values = same_tables.cell_values;
-      acts = same_tables.acts;
-      lie_slots = same_tables.lie_slots;
-      drops = same_tables.drops;
-      delays = same_tables.delays;
-      lies = length-set _ _ _ ∙ same_tables.lies;
-    }) refl refl refl refl refl;
+    tables = lie_rows plan rows h.tables p q c x;
     limits = lie_within plan rows same_tables h.limits p q c x a b d e;
   }
 

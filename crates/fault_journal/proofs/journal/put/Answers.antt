@@ -8,8 +8,8 @@ use Rattle.fault_journal.proofs.journal.put.Goals as goal
 ap₃ : {X Y : Type 0} (f : ℕ → ℕ → X → Y) {a b c d : ℕ} {x y : X} → a ≡ b → c ≡ d → x ≡ y → f a c x ≡ f b d y
 ap₃ f {b = b} {c = c} {x = x} p q r = ap (λ (n : ℕ). f n c x) p ∙ ap₂ (f b) q r
 
-pub returns-in-Slot-clause-row : goal.returns-in-Slot-clause-row
-returns-in-Slot-clause-row c =
+pub returns-in-Slot : goal.returns-in-Slot
+returns-in-Slot c =
     let input = c.args.input.now in
     let row = c.args.row.now in
     let plan = c.requires.ready.0 in
@@ -19,8 +19,8 @@ returns-in-Slot-clause-row c =
     ∙ ap₂ (with_slot input) c.from-replica.ensures (ap nat_abs (to_z-of_z fits) ∙ natural-below (slot_count plan) row.value below)
     ∙ sym (put_row-of_kind input row kind.Slot c.in-Slot.is)
 
-pub returns-in-LieSlot-clause-row : goal.returns-in-LieSlot-clause-row
-returns-in-LieSlot-clause-row c =
+pub returns-in-LieSlot : goal.returns-in-LieSlot
+returns-in-LieSlot c =
     let input = c.args.input.now in
     let row = c.args.row.now in
     let plan = c.requires.ready.0 in
@@ -30,15 +30,15 @@ returns-in-LieSlot-clause-row c =
     ∙ ap₃ (with_lie_slot input) c.from-replica.ensures c.from-receiver.ensures (ap nat_abs (to_z-of_z fits) ∙ natural-below (slot_count plan) row.value below)
     ∙ sym (put_row-of_kind input row kind.LieSlot c.in-LieSlot.is)
 
-pub returns-in-Rate-clause-row : goal.returns-in-Rate-clause-row
-returns-in-Rate-clause-row c =
+pub returns-in-Rate : goal.returns-in-Rate
+returns-in-Rate c =
     let input = c.args.input.now in
     let row = c.args.row.now in
     let fits : SFits w64 row.value = search rules in
     c.set_rate.ensures.row ∙ ap₂ (with_rate input) c.from-replica.ensures (to_z-of_z fits) ∙ sym (put_row-of_kind input row kind.Rate c.in-Rate.is)
 
-pub returns-in-Delay-clause-row : goal.returns-in-Delay-clause-row
-returns-in-Delay-clause-row c =
+pub returns-in-Delay : goal.returns-in-Delay
+returns-in-Delay c =
     let input = c.args.input.now in
     let row = c.args.row.now in
     let fits : SFits w64 row.value = search rules in

@@ -40,7 +40,7 @@ returns c =
     record {
       rows =
           λ plan history tells can.
-          let begun = c.clear_rows.ensures plan can.rows_of_plan ∙ begins plan journal c.args.input.now (can_go_on journal plan history c.args.input.now tells can) in
+          let begun = c.clear_rows.ensures plan can.rows_of_plan.tables ∙ begins plan journal c.args.input.now (can_go_on journal plan history c.args.input.now tells can) in
           let put = c.put_rows.ensures ∙ ap₂ put_all begun (ap (take count) left) ∙ filled plan journal count tells.over of_frame in
           told-Some journal plan history tells journal.done c.args.input.now can.more ∙ ap Some (sym put);
       history = λ plan history tells. tells_on journal plan history count tells of_frame;
