@@ -2,7 +2,8 @@
 //! This project's own.
 use crate::call::check;
 use crate::case::{changed_often, check_all};
-use crate::files::{MOTOR, TWO_FRAMES};
+use crate::files::TWO_FRAMES;
+use example_plans::MOTOR;
 use std::test::Fail;
 
 // In the fourth, the names stand in the order of the cells, and not in that of the file. The fifth has the votes that

@@ -6,7 +6,6 @@ ghost use Rattle.rcp_model.specs.FrameLimits.{IsFrameOf};
 ghost use Rattle.top_tests.specs.Frames.{CanFillNext, IsAtStart, IsOfMotor};
 
 use crate::case::journal_of;
-use crate::files::MOTOR;
 use fault_journal::{Journal, JournalFault};
 use layer_stack::{FrameIn, Inputs, healthy};
 use rcp_base::Memory;
@@ -14,7 +13,6 @@ use rcp_model::Plan;
 use std::alloc::Global;
 use std::process::Abort;
 use std::test::Fail;
-use task_file::read_plan;
 
 // Rows of each kind for the motor, over four frames.
 const ROWS: &str = "0,sensor,cmd,10,,
@@ -62,7 +60,7 @@ const SECOND_FRAMES: &str = "6; 1 ill; 1 down; 1 slot 0; 1 cell 2 -3; 1 act 8; 1
 fn motor(rt: &impl Abort, alloc: Global) -> Result<Plan, Fail>
     ensures { IfOk result (IsOfMotor) }
 {
-    let plan = read_plan(alloc, MOTOR.as_bytes())?;
+    let plan = example_plans::motor(alloc)?;
     assert_eq!(rt; plan.parts().replicas, 3);
     assert_eq!(rt; plan.parts().sensors.len(), 1);
     assert_eq!(rt; plan.parts().cells.len(), 3);

@@ -2,7 +2,7 @@
 //! This project's own.
 use crate::call::check;
 use crate::case::{changed, check_all, journal_of};
-use crate::files::{COUNTER, MOTOR};
+use example_plans::{COUNTER, MOTOR};
 use std::test::Fail;
 
 // The motor's run, by hand from the tasks.

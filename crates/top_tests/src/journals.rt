@@ -1,7 +1,7 @@
 //! Journals that are accepted, and the first fault of others. Rows stand apart by slashes here, without the header.
 //! This project's own.
 use crate::call::{call, check, folder_of};
-use crate::files::MOTOR;
+use example_plans::MOTOR;
 use rcp_base::MemSink;
 use std::alloc::Global;
 use std::process::Abort;

@@ -2,7 +2,8 @@
 //! This project's own.
 use crate::call::{check_call, folder_of};
 use crate::case::{check_all, put_line};
-use crate::files::{COUNTER, TWO_FRAMES};
+use crate::files::TWO_FRAMES;
+use example_plans::COUNTER;
 use rcp_base::MemSink;
 use std::alloc::Global;
 use std::process::Abort;

@@ -2,7 +2,8 @@
 //! This project's own.
 use crate::call::{call, check, folder_of};
 use crate::case::changed_often;
-use crate::files::{COUNTER, MOTOR, TWO_FRAMES};
+use crate::files::TWO_FRAMES;
+use example_plans::{COUNTER, MOTOR};
 use rcp_base::MemSink;
 use std::alloc::Global;
 use std::process::Abort;
@@ -13,8 +14,8 @@ const COUNTER_ACCEPTED: &str = r#"replicas = 3 => replicas = 9~sensor = []
 initial = 0 => initial = -9223372036854775808
 ["count"] => []
 name = "n", initial = 0 => initial = 0, name = "n"
-actuator = [{ name = "out", value = "n" }] => actuator = []
-actuator = [{ name = "out", value = "n" }] => 
+actuator = [~  { name = "out", value = "n" },~] => actuator = []
+actuator = [~  { name = "out", value = "n" },~] => 
 name = "out" => name = "n"
 n := n + 1; => n:=n+0001;
 n := n + 1; => let x = (n * 1); n := if(x < 3, x, 0);
@@ -64,10 +65,10 @@ skew = 50 => skew = 50, jitter = 1 => E03 timing.?
 replicas = 3 => replicas = 3~sensor = 3 => E03 sensor
 replicas = 3 => replicas = 3~sensor = [{ name = "s" }] => E03 sensor[0].initial
 replicas = 3 => replicas = 3~sensor = [{ name = "s", initial = 0, unit = 1 }] => E03 sensor[0].?
-cell = [{ name = "n", initial = 0 }] =>  => E03 cell
-cell = [{ name = "n", initial = 0 }] => cell = [] => E03 cell
-cell = [{ name = "n", initial = 0 }] => cell = { name = "n" } => E03 cell
-cell = [{ name = "n", initial = 0 }] => cell = [3] => E03 cell[0]
+cell = [~  { name = "n", initial = 0 },~] =>  => E03 cell
+cell = [~  { name = "n", initial = 0 },~] => cell = [] => E03 cell
+cell = [~  { name = "n", initial = 0 },~] => cell = { name = "n" } => E03 cell
+cell = [~  { name = "n", initial = 0 },~] => cell = [3] => E03 cell[0]
 initial = 0 => initial = "0" => E03 cell[0].initial
 initial = 0 => initial = 9223372036854775808 => E02
 name = "n" => name = 7 => E03 cell[0].name
@@ -121,7 +122,7 @@ name = "integrate" => name = "sense" => E04 task[1].name
 err := cmd - pos; => err := cmd - poz; => E06 task[0].body byte 13
 pos := pos + sum / 2; => cmd := 1; => E07 task[2].body byte 0
 tasks = ["move"] => tasks = ["move", "pos"] => E08 slot[1].tasks[1]
-[[slot]]~tasks = ["sense", "integrate"] => [[task]]~name = "sense2"~body = "err := cmd;"~~[[slot]]~tasks = ["sense", "integrate", "sense2"] => E09 slot[0].tasks[2]
+tasks = ["sense", "integrate"] => tasks = ["sense", "integrate", "sense2"] && task = [ => task = [~  { name = "sense2", body = "err := cmd;" }, => E09 slot[0].tasks[2]
 "#;
 
 // Each line has changes with which the file is accepted.
@@ -173,10 +174,14 @@ fn files_that_are_no_document_are_refused(rt: HostRuntime) -> Result<(), Fail> {
 }
 
 #[test]
-fn long_files_and_texts_are_refused(rt: HostRuntime) -> Result<(), Fail> {
+fn the_longest_file_is_read(rt: HostRuntime) -> Result<(), Fail> {
+    let longest = "#".repeat(rt.alloc(), 1_048_576)?;
+    check_fault(&rt, rt.alloc(), longest.as_bytes(), "E03 replicas")
+}
+
+#[test]
+fn longer_files_and_texts_are_refused(rt: HostRuntime) -> Result<(), Fail> {
     let alloc = rt.alloc();
-    let longest = "#".repeat(alloc, 1_048_576)?;
-    check_fault(&rt, alloc, longest.as_bytes(), "E03 replicas")?;
     let longer = "#".repeat(alloc, 1_048_577)?;
     check_fault(&rt, alloc, longer.as_bytes(), "E01")?;
     let blanks = " ".repeat(alloc, 4_085)?;

@@ -2,7 +2,8 @@
 //! This project's own.
 use crate::call::check;
 use crate::case::check_all;
-use crate::files::{COUNTER, TWO_FRAMES};
+use crate::files::TWO_FRAMES;
+use example_plans::COUNTER;
 use std::test::Fail;
 
 const USAGE: &str =
