@@ -121,7 +121,7 @@ pub fn thin(
         (nodes : List Node) → IsUnvotedCycle g nodes → ⊥ }
     requires limit { IfSome limit (λ k. 1 ≤ k) }
     ensures thinned { OnOk result (IsThinnedFor limit rows.now pattern.old pattern.new) }
-    ensures count { IfOk result (λ spared. vote_count pattern.new + spared ≡ vote_count pattern.old) }
+    ensures count { IfOk result (λ many. vote_count pattern.new + many ≡ vote_count pattern.old) }
     ensures ok { IsOk result }
 {
     if is_good_pattern(alloc, rows, &*pattern, limit)? {
