@@ -1,4 +1,4 @@
--- Which cell feeds which in a slot: whose value before the slot can enter whose value after it, by the names in the text.
+-- Which cell feeds which in a slot: whose value before it can enter whose value after it, by the names in the text.
 -- After NASA TM-102716; the rule is this project's own.
 use Rattle.std.specs.Prelude.{ℕ, ◌<◌, ◌≡◌, ◌==◌, Bool, false, IsTrue, ◌&&◌, ◌||◌, List, [], ◌∷◌, ◌++◌, length, slice_index_or, Option, Some, None}
 use Rattle.rcp_base.specs.Search.{any_below}
@@ -53,7 +53,8 @@ feeds_through cells (task ∷ tasks) from to = any_below cells (λ x. leads task
 -- the same as a statement: there is a way, of one cell in front of each task and one after the last
 abbrev pub FeedsThrough : ℕ → List Task → ℕ → ℕ → Type 0
 FeedsThrough cells [] from to = from ≡ to
-FeedsThrough cells (task ∷ tasks) from to = (x : ℕ) × (x < cells) × IsTrue (leads task from x) × FeedsThrough cells tasks x to
+FeedsThrough cells (task ∷ tasks) from to =
+    (x : ℕ) × (x < cells) × IsTrue (leads task from x) × FeedsThrough cells tasks x to
 
 -- one cell feeds another in a slot
 unfoldable pub feeds : PlanParts → ℕ → ℕ → ℕ → Bool

@@ -58,7 +58,7 @@ period_of g = suc (first_below (node_count g) (comes_again g))
 abbrev pub turn_of : Graph → ℕ
 turn_of g = lowest_below (period_of g) (λ more. number g (path g (more + node_count g)))
 
--- the node to which so many steps back lead from the one so many steps behind the node reached
+-- the node to which so many steps back lead, from the one so many steps after the node reached
 abbrev pub around : Graph → ℕ → ℕ → Node
 around g turn back = path g (back + (turn + node_count g))
 

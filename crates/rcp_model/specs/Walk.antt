@@ -29,7 +29,7 @@ pub record StepsTo (g : Graph) (m n : Node) : Type 0 where
   pub turn : n.slot ≡ (m.slot + 1) % g.slots
   pub feeds : IsTrue (g.feeds n.slot m.cell n.cell)
 
--- what stands behind the last node
+-- what stands past the last node
 abbrev pub no_node : Node
 no_node = record { slot = 0; cell = 0 }
 

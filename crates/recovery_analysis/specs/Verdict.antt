@@ -29,4 +29,5 @@ IsWithin limit g answer = IsTrue answer ↔ HasNoWalk g limit
 
 -- it tells so of each graph that has these rows and votes
 abbrev pub IsWithinOfGraphs : ℕ → Rows → Votes → Bool → Type 0
-IsWithinOfGraphs limit rows votes answer = (g : Graph) → AreFeedsOf g rows → AreVotesOf g votes → IsWithin limit g answer
+IsWithinOfGraphs limit rows votes answer =
+    (g : Graph) → AreFeedsOf g rows → AreVotesOf g votes → IsWithin limit g answer

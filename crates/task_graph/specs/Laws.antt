@@ -19,4 +19,6 @@ FeedingCellsDecide =
 
 -- one cell feeds another over tasks exactly where there is a way from the one to the other
 abbrev pub FeedingIsAWay : Type 0
-FeedingIsAWay = (cells : ℕ) (tasks : List Task) (from to : ℕ) → (feeds_through cells tasks from to ≡ true) ↔ FeedsThrough cells tasks from to
+FeedingIsAWay =
+    (cells : ℕ) (tasks : List Task) (from to : ℕ)
+    → (feeds_through cells tasks from to ≡ true) ↔ FeedsThrough cells tasks from to

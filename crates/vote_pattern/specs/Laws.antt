@@ -8,7 +8,7 @@ use Rattle.vote_pattern.specs.Votes.{Votes, ChangesVote, AreVotesOf, is_in, vote
 abbrev pub one_if : Bool → ℕ
 one_if voted = if voted then 1 else 0
 
--- after a change there are as many votes as before, without the one that stood there and with the one that stands there now
+-- after a change there are as many votes as before, without the one that stood there and with the one that stands now
 abbrev pub TheCountFollowsTheVotes : Type 0
 TheCountFollowsTheVotes =
     (old new : Votes) (slot cell : ℕ) (value : Bool) → slot < old.slots → cell < old.cells

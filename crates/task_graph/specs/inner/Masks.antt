@@ -66,7 +66,8 @@ union_below row word (suc n) = bit_or (union_below row word n) (mask_if (has_bit
 -- the cells that lead to one of the word over the task with that number. One that isn't there changes nothing
 abbrev pub word_before : List (List ℕ) → ℕ → ℕ → ℕ
 word_before rows number word =
-    if nat_lt number (length rows) then union_below (slice_index_or rows number []) word (length (slice_index_or rows number [])) else word
+    let row = slice_index_or rows number [] in
+    if nat_lt number (length rows) then union_below row word (length row) else word
 
 -- the cells that feed a cell over the tasks with these numbers
 abbrev pub word_over : List (List ℕ) → ℕ → List ℕ → ℕ

@@ -1,4 +1,4 @@
--- The words of the cells so far stand behind those that were there.
+-- The words of the cells so far stand after those that were there.
 use Rattle.std.proofs.Common.{◌≡◌, ◌++◌}
 use Rattle.rcp_base.specs.Tables.{table}
 use Rattle.task_graph.specs.inner.Masks as spec
