@@ -21,7 +21,11 @@ fn needs_of(alloc: Global, rows: &DepRows) -> Result<String, Fail> {
         for cell in 0..rows.cells() {
             text.push_str(format!(in alloc; "{slot} {cell}:")?.as_str())?;
             for from in 0..rows.cells() {
-                text.push_str(if rows.needs(slot, cell, from) { "1" } else { "0" })?;
+                text.push_str(if rows.needs(slot, cell, from) {
+                    "1"
+                } else {
+                    "0"
+                })?;
             }
             text.push_str(format!(in alloc; " {}\n", rows.word(slot, cell))?.as_str())?;
         }

@@ -67,6 +67,9 @@ fn a_plan_has_its_pattern(rt: HostRuntime) -> Result<(), Fail> {
     let (_, motor) = rows_and_pattern(rt.alloc(), "motor", "-")?;
     assert_eq!(rt; shown(rt.alloc(), &motor)?.as_str(), "001 100 2");
     let (_, pitch) = rows_and_pattern(rt.alloc(), "pitch", "-")?;
-    assert_eq!(rt; shown(rt.alloc(), &pitch)?.as_str(), "10000 00000 00100 00000 2");
+    assert_eq!(rt;
+        shown(rt.alloc(), &pitch)?.as_str(),
+        "10000 00000 00100 00000 2"
+    );
     Ok(())
 }

@@ -28,12 +28,7 @@ pitch:-:9:no
 pitch:-:10:yes
 pitch:-:11:yes";
 
-fn is_within(
-    alloc: Global,
-    rows: &DepRows,
-    pattern: &Pattern,
-    limit: u32,
-) -> Result<bool, Fail> {
+fn is_within(alloc: Global, rows: &DepRows, pattern: &Pattern, limit: u32) -> Result<bool, Fail> {
     if !fit(rows, pattern) || limit == 0 {
         return Err("another size".into());
     }
