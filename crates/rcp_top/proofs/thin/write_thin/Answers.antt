@@ -1,15 +1,13 @@
 -- The thinned pattern, what was spared, and its recovery, one after the other.
 use Rattle.rcp_base.proofs.AddingLaws.{adds_then, adds_all}
-use Rattle.rcp_model.specs.PlanGraph.{graph_of_plan}
-use Rattle.rcp_model.specs.Thinning.{thinned}
 use Rattle.rcp_top.specs.PatternLines.{pattern_text, recovery_text}
-use Rattle.rcp_top.specs.Thin.{spared_line, thin_text}
+use Rattle.rcp_top.specs.Thin.{spared_line, thin_text, thinned_graph}
 use Rattle.rcp_top.proofs.thin.write_thin.Goals as goal
 
 pub returns : goal.returns
 unfolding thin_text
 returns g c =
-    let graph = thinned (graph_of_plan c.args.plan.now) in
+    let graph = thinned_graph c.args.plan.now in
     let cells = c.args.plan.now.cells in
     let line = spared_line c.args.spared in
     let last = recovery_text cells c.args.length c.args.walk.now in
