@@ -1,5 +1,5 @@
 -- How a call ends, by what was written and what was read.
-use Rattle.std.proofs.Common.{ℕ, List, [], ◌∷◌, suc, ◌≡◌, ◌⊎◌, Option, Some, None, Result, Ok, Err, Contains, refl, inl, inr, sym, ap, ◌∙◌, subst, arith}
+use Rattle.std.proofs.Common.{ℕ, List, ◌∷◌, suc, ◌≡◌, ◌⊎◌, Option, Some, None, Result, Ok, Err, Contains, refl, inl, inr, sym, subst, arith}
 use Rattle.rcp_base.specs.Files.{Files, IfTold, IsMissing}
 use Rattle.rcp_base.specs.declared.sink.WriteError.{WriteError}
 use Rattle.rcp_base.specs.declared.sink.WriteError.TheVariants as write

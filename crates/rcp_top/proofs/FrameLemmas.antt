@@ -1,5 +1,5 @@
 -- The text of the frames of a history, one frame at a time.
-use Rattle.std.proofs.Common.{◌≡◌, ℕ, ℤ, ◌+◌, ◌<◌, ◌≤◌, List, [], ◌∷◌, ◌++◌, length, take, drop, reverse, get_or, Option, Result, refl, ap, sym, ◌∙◌, subst, arith, append_assoc}
+use Rattle.std.proofs.Common.{◌≡◌, ℕ, ℤ, ◌+◌, ◌<◌, ◌≤◌, List, [], ◌∷◌, ◌++◌, length, take, drop, reverse, get_or, Result, refl, ap, sym, ◌∙◌, subst, arith, append_assoc}
 use Rattle.std.proofs.lemmas.List.{take_more, drop_more, drop_all, reverse-append, length-take-le, length-reverse}
 use Rattle.rcp_base.specs.declared.sink.WriteError.{WriteError}
 use Rattle.rcp_base.specs.Adding.{Adds, IsHalfway}

@@ -1,19 +1,16 @@
 -- What a verdict on a plan's pattern says.
-use Rattle.std.proofs.Common.{false, true, ◌≡◌, ◌⊎◌, ℕ, ◌<◌, List, length, cond, Result, Ok, Err, IfOk, refl, inl, inr, sym, ap, ◌∙◌, subst}
-use Rattle.std.proofs.lemmas.Bool.{cases_Bool, cond-true, cond-false, lt-leb}
+use Rattle.std.proofs.Common.{◌≡◌, ℕ, ◌<◌, List, length, cond, Result, Ok, Err, IfOk, refl, inl, inr, sym, ap, ◌∙◌}
+use Rattle.std.proofs.lemmas.Bool.{lt-leb}
 use Rattle.rcp_base.specs.declared.memory.Memory.{Memory}
-use Rattle.rcp_model.specs.PlanGraph.{graph_of_plan}
 use Rattle.rcp_model.specs.Walk.{Graph}
 use Rattle.rcp_model.specs.declared.plan.PlanParts.{PlanParts}
 use Rattle.recovery_analysis.specs.declared.verdict.Verdict as verdicts
 use Rattle.recovery_analysis.specs.Verdict.{IsVerdictOfGraphs, verdict_of}
 use Rattle.task_graph.specs.Rows.{Rows, AreFeedsOf}
 use Rattle.vote_pattern.specs.Votes.{Votes, AreVotesOf}
-use Rattle.fault_journal.specs.declared.fault.JournalFault.{JournalFault}
 use Rattle.fault_journal.specs.declared.fault.JournalFault.TheVariants as journal_fault
 use Rattle.fault_journal.specs.History.{journal_verdict}
 use Rattle.fault_journal.specs.Journal.{journal_rows, rows_in, records_of}
-use Rattle.task_file.specs.declared.fault.FileFault.{FileFault}
 use Rattle.task_file.specs.declared.fault.FileFault.TheVariants as fault
 use Rattle.rcp_base.specs.Answers.{◌>>=◌}
 use Rattle.task_file.specs.Shape.{sections_of}

@@ -1,11 +1,11 @@
 -- A call whose reads and writes did not fail.
-use Rattle.std.proofs.Common.{◌≡◌, ◌⊎◌, ℕ, List, Option, Some, Contains, inl, inr, subst}
+use Rattle.std.proofs.Common.{◌≡◌, ◌⊎◌, ℕ, List, Option, Contains, inl, inr, subst}
 use Rattle.std.specs.Io.KnownBytes.{Appends}
 use Rattle.rcp_base.specs.Files.{Files, IfTold, Rises}
-use Rattle.rcp_base.specs.States.{FolderState, SinkState, HasFailed}
+use Rattle.rcp_base.specs.States.{SinkState, HasFailed}
 use Rattle.rcp_top.specs.declared.status.Status.{Status}
 use Rattle.rcp_top.specs.declared.status.Status.TheVariants as status
-use Rattle.rcp_top.specs.Outcome.{Outcome, Ends, EndsOver, outcome_of, words_read, unreadable}
+use Rattle.rcp_top.specs.Outcome.{Outcome, Ends, outcome_of, words_read, unreadable}
 use Rattle.rcp_top.specs.Laws.{NoFailedReadLeavesNoChoice, ARunThatCanFinishDoes}
 
 pub read_in_full : NoFailedReadLeavesNoChoice

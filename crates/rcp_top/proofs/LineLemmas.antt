@@ -1,7 +1,7 @@
 -- Lines of the items of a list, one item at a time.
 use Rattle.std.proofs.lemmas.Grind.{flat_map-append}
 use Rattle.std.proofs.lemmas.List.{take_more}
-use Rattle.std.proofs.Common.{append-nil, [], take, ◌≡◌, ℕ, suc, ◌+◌, ◌<◌, List, ◌∷◌, ◌++◌, length, get_or, drop, flat_map, ap, sym, ◌∙◌, add-one, drop-cons}
+use Rattle.std.proofs.Common.{append-nil, [], take, ◌≡◌, ℕ, ◌+◌, ◌<◌, List, ◌∷◌, ◌++◌, length, get_or, flat_map, ap, sym, ◌∙◌}
 
 -- the lines of one item more
 pub lines_more : {X : Type 0} (lines : X → List ℕ) (items : List X) (k : ℕ) (item : X) → k < length items → item ≡ get_or items k item

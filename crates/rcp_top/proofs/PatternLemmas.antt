@@ -1,6 +1,6 @@
 -- What is due of a vote pattern, by the statements on cycles and walks.
 use Rattle.std.specs.Prelude.{⊤}
-use Rattle.std.proofs.Common.{◌≡◌, ℕ, List, Option, Some, None, Result, Ok, Err, cond, refl, inl, inr, sym, ap, ◌∙◌, subst}
+use Rattle.std.proofs.Common.{◌≡◌, ℕ, List, Option, Some, None, Result, Ok, Err, refl, inl, inr, sym, ap, ◌∙◌, subst}
 use Rattle.std.proofs.lemmas.Bool.{cases_Bool, cond-true, cond-false, both_ways}
 use Rattle.rcp_base.specs.Files.{Files}
 use Rattle.rcp_model.specs.History.{History}
@@ -19,7 +19,7 @@ use Rattle.rcp_top.specs.declared.stop.Refusal.TheVariants as refusal
 use Rattle.rcp_top.specs.Forms.{Form, work_of}
 use Rattle.rcp_top.specs.Laws.{GivesPlan, IsRefusedAtCycles, PatternsAreRefusedAtCycles, AnalysesAreRight, file_of}
 use Rattle.rcp_top.specs.Outcome.{Outcome, outcome_at, outcome_by, outcome_of}
-use Rattle.rcp_top.specs.Check.{check_text, analysis_text}
+use Rattle.rcp_top.specs.Check.{analysis_text}
 use Rattle.rcp_top.specs.Reading.{Reading, End, end_at, end_over, ◌>>=◌}
 use Rattle.rcp_top.specs.Ideal.{ideal_text, sensors_of_history}
 use Rattle.rcp_top.specs.Read.{plan_at, history_at, good_plan, good_history, shown}

@@ -1,7 +1,7 @@
 -- Readings one after the other, over any folder.
-use Rattle.std.proofs.Common.{◌≡◌, ◌⊎◌, ℕ, ◌≤◌, List, [], ◌∷◌, Option, None, Some, Result, Ok, Err, refl, inl, inr, sym, ap, ◌∙◌, subst, arith}
+use Rattle.std.proofs.Common.{◌≡◌, ℕ, List, [], Option, None, Some, Result, Ok, Err, refl, inl, inr, sym, subst, arith}
 use Rattle.rcp_base.specs.Files.{Files, IfTold, IsMissing}
-use Rattle.rcp_base.specs.States.{FolderState, IsLater, IsRead, IsUnread}
+use Rattle.rcp_base.specs.States.{FolderState, IsLater}
 use Rattle.rcp_base.proofs.StateLaws.{read_since, unread_since, unread_until}
 use Rattle.rcp_top.specs.declared.stop.Refusal.{Refusal}
 use Rattle.rcp_top.specs.declared.stop.Stop.{Stop}

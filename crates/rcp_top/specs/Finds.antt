@@ -1,7 +1,6 @@
 -- What code that reads answers. This project's own.
 use Rattle.std.specs.Prelude.{◌≡◌, ◌⊎◌, ℕ, ◌<◌, List, length, ⊤, Result, Ok, Err}
 use Rattle.rcp_base.specs.States.{FolderState}
-use Rattle.rcp_top.specs.declared.stop.Refusal.{Refusal}
 use Rattle.rcp_top.specs.declared.stop.Stop.{Stop}
 use Rattle.rcp_top.specs.declared.stop.Stop.TheVariants as stop
 use Rattle.rcp_top.specs.Reading.{Reading, End, Does}

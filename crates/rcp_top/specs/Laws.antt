@@ -1,5 +1,5 @@
 -- What follows from the way in which a call may end. This project's own.
-use Rattle.std.specs.Prelude.{◌≡◌, ◌⊎◌, ◌↔◌, List, ℕ, Option, Some, Ok}
+use Rattle.std.specs.Prelude.{◌≡◌, ◌⊎◌, ◌↔◌, List, ℕ, Some, Ok}
 use Rattle.std.specs.Io.KnownBytes.{Appends}
 use Rattle.rcp_base.specs.Files.{Files, Rises}
 use Rattle.rcp_base.specs.States.{FolderState, SinkState, HasFailed}

@@ -1,5 +1,5 @@
 -- What a call is to answer and to write, over the words and the files, and how it may end. This project's own.
-use Rattle.std.specs.Prelude.{◌≡◌, ◌⊎◌, ℕ, List, [], ◌∷◌, ⊤, Contains, Option, None, Some, Result, Ok, Err}
+use Rattle.std.specs.Prelude.{◌≡◌, ◌⊎◌, ℕ, List, [], Contains, Option, None, Some, Result, Ok, Err}
 use Rattle.std.specs.Io.KnownBytes.{Appends}
 use Rattle.rcp_base.specs.declared.sink.WriteError.{WriteError}
 use Rattle.rcp_base.specs.declared.sink.WriteError.TheVariants as write
@@ -13,7 +13,7 @@ use Rattle.rcp_top.specs.declared.stop.Refusal.TheVariants as refusal
 use Rattle.rcp_top.specs.Forms.{Form, form_of, work_of}
 use Rattle.rcp_top.specs.Lines.{unreadable_line, usage_line, task_refused_line, journal_refused_line}
 use Rattle.rcp_top.specs.PatternLines.{pattern_refused_line}
-use Rattle.rcp_top.specs.Reading.{Reading, End, end_over, names_read}
+use Rattle.rcp_top.specs.Reading.{End, end_over, names_read}
 
 -- a status and a text
 pub record Outcome : Type 0 where

@@ -1,5 +1,5 @@
 -- What a call reads, one file after the other, and what it finds in them. This project's own.
-use Rattle.std.specs.Prelude.{◌≡◌, ◌⊎◌, ℕ, List, [], ◌∷◌, ⊤, Option, None, Some, Result, Ok, Err}
+use Rattle.std.specs.Prelude.{◌⊎◌, ℕ, List, [], ◌∷◌, Option, None, Some, Result, Ok, Err}
 use Rattle.rcp_base.specs.Files.{Files}
 use Rattle.rcp_base.specs.States.{FolderState, IsRead, IsUnread}
 use Rattle.rcp_top.specs.declared.stop.Refusal.{Refusal}

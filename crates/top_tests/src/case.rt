@@ -51,13 +51,7 @@ impl Case {
     }
 
     // Makes the call with the words of this line.
-    fn check(
-        &self,
-        rt: &impl Abort,
-        alloc: Global,
-        line: &str,
-        status: &str,
-    ) -> Result<(), Fail> {
+    fn check(&self, rt: &impl Abort, alloc: Global, line: &str, status: &str) -> Result<(), Fail> {
         let journal = journal_of(alloc, self.rows.as_str())?;
         let mut folder = folder_of(alloc, self.file.as_bytes(), journal.as_bytes())?;
         folder.fail_at(self.failing_read)?;

@@ -52,7 +52,8 @@ const SECOND_ROWS: &str = "0,sensor,cmd,6,,
 2,end,,,,
 ";
 
-const SECOND_FRAMES: &str = "6; 1 ill; 1 down; 1 slot 0; 1 cell 2 -3; 1 act 8; 1 skew -50; 1 rate 99; 1 to 2 cell 0 5; 1 to 2 slot 1; 1 to 2 dropped; 1 to 2 delay 0
+const SECOND_FRAMES: &str =
+    "6; 1 ill; 1 down; 1 slot 0; 1 cell 2 -3; 1 act 8; 1 skew -50; 1 rate 99; 1 to 2 cell 0 5; 1 to 2 slot 1; 1 to 2 dropped; 1 to 2 delay 0
 6
 ";
 
@@ -130,17 +131,26 @@ fn put_replica(
     }
     for cell in 0..3u32 {
         if let Some(value) = input.cell(replica, cell) {
-            put(text, format!(in alloc; "{replica} cell {cell} {value}")?.as_str())?;
+            put(
+                text,
+                format!(in alloc; "{replica} cell {cell} {value}")?.as_str(),
+            )?;
         }
     }
     if let Some(value) = input.act(replica, 0) {
         put(text, format!(in alloc; "{replica} act {value}")?.as_str())?;
     }
     if input.skew(replica) != 0 {
-        put(text, format!(in alloc; "{replica} skew {}", input.skew(replica))?.as_str())?;
+        put(
+            text,
+            format!(in alloc; "{replica} skew {}", input.skew(replica))?.as_str(),
+        )?;
     }
     if input.rate(replica) != 0 {
-        put(text, format!(in alloc; "{replica} rate {}", input.rate(replica))?.as_str())?;
+        put(
+            text,
+            format!(in alloc; "{replica} rate {}", input.rate(replica))?.as_str(),
+        )?;
     }
     Ok(())
 }
@@ -161,17 +171,26 @@ fn put_message(
 {
     for cell in 0..3u32 {
         if let Some(value) = input.lie(from, to, cell) {
-            put(text, format!(in alloc; "{from} to {to} cell {cell} {value}")?.as_str())?;
+            put(
+                text,
+                format!(in alloc; "{from} to {to} cell {cell} {value}")?.as_str(),
+            )?;
         }
     }
     if let Some(slot) = input.lieslot(from, to) {
-        put(text, format!(in alloc; "{from} to {to} slot {slot}")?.as_str())?;
+        put(
+            text,
+            format!(in alloc; "{from} to {to} slot {slot}")?.as_str(),
+        )?;
     }
     if input.dropped(from, to) {
         put(text, format!(in alloc; "{from} to {to} dropped")?.as_str())?;
     }
     if input.delay(from, to) != 100 {
-        put(text, format!(in alloc; "{from} to {to} delay {}", input.delay(from, to))?.as_str())?;
+        put(
+            text,
+            format!(in alloc; "{from} to {to} delay {}", input.delay(from, to))?.as_str(),
+        )?;
     }
     Ok(())
 }

@@ -1,8 +1,6 @@
 -- The names are those of the plan's sensors and cells.
-use Rattle.std.proofs.Common.{◌≡◌, ℕ, List, ◌∙◌, ap, ap₂, flat_map, subst}
-use Rattle.rcp_base.specs.Adding.{Adds}
-use Rattle.rcp_top.specs.Check.{names_of, task_line}
-use Rattle.rcp_model.specs.declared.task.Task.{Task}
+use Rattle.std.proofs.Common.{◌≡◌, ◌∙◌, ap}
+use Rattle.rcp_top.specs.Check.{names_of}
 use Rattle.rcp_top.proofs.check.write_tasks.Goals as goal
 
 pub returns : goal.returns

@@ -1,5 +1,5 @@
 -- The plan, and then its journal.
-use Rattle.std.proofs.Common.{List, ℕ, Err, subst, sym}
+use Rattle.std.proofs.Common.{List, ℕ, Err, subst}
 use Rattle.std.proofs.lemmas.Result.{err_from_is_err_and}
 use Rattle.rcp_model.specs.declared.plan.PlanParts.{PlanParts}
 use Rattle.rcp_top.specs.Finds.{Finds}

@@ -1,5 +1,5 @@
 -- The frame that is written is the one after which the processor stands, and what is left is to be written.
-use Rattle.std.proofs.Common.{◌+◌, ◌≡◌, ◌<◌, ◌≤◌, ℤ, List, IfOk, length, sym, ◌∙◌, subst, arith}
+use Rattle.std.proofs.Common.{◌≡◌, ◌≤◌, ℤ, List, IfOk, length, sym, ◌∙◌, subst, arith}
 use Rattle.rcp_base.proofs.AddingLaws.{halfway_start, halfway_as, halfway_stop, halfway_last}
 use Rattle.rcp_top.specs.Lines.{end_line}
 use Rattle.rcp_top.specs.Ideal.{sensors_of_history}
@@ -36,7 +36,7 @@ loop-t-preserved g c = (
       let plan = c.args.plan.now in
       let t = c.loop-t.t in
       let frames = sensors_of_history history in
-        let so_far = c.loop-t.invariant.1 history tells are in
+      let so_far = c.loop-t.invariant.1 history tells are in
       let next = frame_at plan history _ t _ c.fill.new.input c.sensors.result.now c.loop-t.invariant.0 are (omega (arith, c.loop-t-test.true, c.frames-frames.ensures plan history tells)) so_far.rows (c.fill.ensures.rows plan history so_far.told) c.sensors.ensures in
       let stands = c.frame.ensures plan (past_frames frames t) so_far.uni in
       record {

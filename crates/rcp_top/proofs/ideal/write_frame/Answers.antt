@@ -1,6 +1,5 @@
 -- The parts of a frame, one after the other.
 use Rattle.std.proofs.Common.{◌++◌, ◌≡◌, ℕ, ℤ, List, ◌∷◌, IfOk, ap₂, subst}
-use Rattle.std.proofs.lemmas.Result.{err_from_is_err_and}
 use Rattle.rcp_base.proofs.AddingLaws.{adds_then}
 use Rattle.rcp_model.specs.Uniprocessor.{ProcessorState, ideal_command, ideal_state}
 use Rattle.rcp_model.specs.declared.plan.ActuatorRow.{ActuatorRow}

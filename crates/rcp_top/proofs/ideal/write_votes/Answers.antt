@@ -1,7 +1,6 @@
 -- The line of an actuator is the next one that is to be written.
 use Rattle.std.proofs.Common.{ℕ, List, take, ◌≡◌, ◌<◌, ℤ, ◌∙◌, ap, length, get_or, IfOk, sym, subst, to_z, of_z, w64, arith}
 use Rattle.std.proofs.lemmas.Int.{ints, to_z-of_z}
-use Rattle.std.proofs.lemmas.Result.{err_from_is_err_and}
 use Rattle.rcp_model.specs.Uniprocessor.{ideal_command}
 use Rattle.rcp_model.specs.declared.plan.ActuatorRow.{ActuatorRow}
 use Rattle.rcp_top.specs.Lines.{vote_line}

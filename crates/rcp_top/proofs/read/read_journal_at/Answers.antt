@@ -1,5 +1,5 @@
 -- The verdict on what was seen of the file is that on the file.
-use Rattle.std.proofs.Common.{List, ℕ, Result, subst}
+use Rattle.std.proofs.Common.{Result, subst}
 use Rattle.rcp_model.specs.History.{History}
 use Rattle.fault_journal.specs.History.{journal_verdict}
 use Rattle.fault_journal.specs.declared.fault.JournalFault.{JournalFault}

@@ -1,5 +1,5 @@
 -- The verdict on what was seen of the file is that on the file.
-use Rattle.std.proofs.Common.{Result, List, ℕ, subst}
+use Rattle.std.proofs.Common.{Result, subst}
 use Rattle.rcp_top.specs.Reading.{Reading, End, file_at}
 use Rattle.rcp_top.specs.Finds.{IsSeenUpTo, TellsEnd}
 use Rattle.rcp_top.specs.Read.{IsJudged, good_plan}
