@@ -1,5 +1,5 @@
 -- What a row keeps that is accepted, and what all rows of a journal keep.
-use Rattle.std.proofs.Common.{◌≡◌, ◌≢◌, ℕ, suc, nat_le, inl, inr, ◌+◌, ◌<◌, ◌≤◌, List, [], ◌∷◌, length, Some, Ok, Err, ℤ, pos, negsuc, int_lt, int_le, Bool, true, false, not, ◌&&◌, if◌then◌else◌, All, AllPairs, sym, refl, ap, ◌∙◌, arith, subst}
+use Rattle.std.proofs.Common.{◌≡◌, ◌≢◌, ℕ, suc, nat_le, inl, inr, ◌+◌, ◌<◌, ◌≤◌, List, [], ◌∷◌, length, Some, Ok, Err, ℤ, pos, negsuc, int_lt, int_le, Bool, true, false, not, ◌&&◌, if◌then◌else◌, All, AllPairs, sym, refl, ap, ◌∙◌, arith, subst, Result}
 use Rattle.std.specs.List.{list_any}
 use Rattle.std.specs.Ordering.{int_eq}
 use Rattle.std.proofs.lemmas.Bool.{cases_Bool, true≢false}
@@ -7,6 +7,7 @@ use Rattle.std.proofs.lemmas.Bool.Decides.{Decides-int_eq}
 use Rattle.std.proofs.lemmas.Int.{ints}
 use Rattle.std.proofs.lemmas.List.Elements.{All-nil, All-cons}
 use Rattle.std.proofs.lemmas.List.Kept.{AllPairs-cons}
+use Rattle.rcp_base.specs.Answers.{◌>>=◌, found_or, where_passes, natural_of}
 use Rattle.rcp_model.specs.declared.plan.PlanParts.{PlanParts}
 use Rattle.fault_journal.specs.declared.fault.JournalFault.{JournalFault}
 use Rattle.fault_journal.specs.declared.fault.JournalFault.TheVariants as fault
@@ -14,29 +15,28 @@ use Rattle.fault_journal.specs.declared.row.Kind.{Kind}
 use Rattle.fault_journal.specs.declared.row.Kind.TheVariants as kind
 use Rattle.fault_journal.specs.declared.row.WrittenRow.{WrittenRow}
 use Rattle.fault_journal.specs.declared.row.Row.{Row}
-use Rattle.fault_journal.specs.Verdict.{Verdict, ◌>>=◌, found_or, where_passes}
 use Rattle.fault_journal.specs.Columns.{kind_of, written_row}
-use Rattle.fault_journal.specs.Limits.{is_within_limits, frame_is_there, is_on_a_message, is_below, natural_of, packed}
-use Rattle.fault_journal.specs.Journal.{Fields, SixFields, six_fields, is_end, follows, repeats, row_of, JournalRows, ended, rows_from, rows_in, journal_rows, is_header, records_of}
+use Rattle.fault_journal.specs.Limits.{is_within_limits, frame_is_there, is_on_a_message, is_below, packed}
+use Rattle.fault_journal.specs.Journal.{Fields, SixFields, six_fields, is_end, follows, repeats, row_of, JournalRows, rows_at_end, rows_from, rows_of_records, journal_rows, is_header, records_of}
 use Rattle.fault_journal.specs.Filling.{IsRowOf}
 use Rattle.fault_journal.specs.Accepted.{AreJournalRows}
 use Rattle.fault_journal.proofs.WrittenLemmas.{then-Ok, passes-Ok, found-Ok, IsWritten, written_row-Ok}
 
--- the tests of a row behind its columns
-abbrev tested : PlanParts → ℕ → List Row → WrittenRow → Verdict Row
+-- the tests of a row after its columns
+abbrev tested : PlanParts → ℕ → List Row → WrittenRow → Result Row JournalFault
 tested plan number before written = do
   ordered ← where_passes (fault.Order number) (follows before written) written
   limited ← where_passes (fault.Limit number) (is_within_limits plan ordered) (packed ordered)
   where_passes (fault.Repeated number) (not (list_any (repeats limited) before)) limited
 
--- those behind its kind
-abbrev of_kind : PlanParts → ℕ → List Row → SixFields → Kind → Verdict Row
+-- those after its kind
+abbrev of_kind : PlanParts → ℕ → List Row → SixFields → Kind → Result Row JournalFault
 of_kind plan number before six kind = do
   written ← written_row plan number six.frame kind six.columns
   tested plan number before written
 
--- those behind its fields
-abbrev of_fields : PlanParts → ℕ → List Row → SixFields → Verdict Row
+-- those after its fields
+abbrev of_fields : PlanParts → ℕ → List Row → SixFields → Result Row JournalFault
 of_fields plan number before six = do
   kind ← found_or (fault.Kind number) (kind_of six.kind)
   of_kind plan number before six kind
@@ -50,8 +50,8 @@ record Passes (plan : PlanParts) (before : List Row) (written : WrittenRow) (row
 tested-Ok : (plan : PlanParts) (number : ℕ) (before : List Row) (written : WrittenRow) (row : Row) → tested plan number before written ≡ Ok row
     → Passes plan before written row
 tested-Ok plan number before written row is =
-    let single : Row → Verdict Row = λ limited. where_passes (fault.Repeated number) (not (list_any (repeats limited) before)) limited in
-    let limited : WrittenRow → Verdict Row = λ ordered. where_passes (fault.Limit number) (is_within_limits plan ordered) (packed ordered) >>= single in
+    let single : Row → Result Row JournalFault = λ limited. where_passes (fault.Repeated number) (not (list_any (repeats limited) before)) limited in
+    let limited : WrittenRow → Result Row JournalFault = λ ordered. where_passes (fault.Limit number) (is_within_limits plan ordered) (packed ordered) >>= single in
     let first = then-Ok (where_passes (fault.Order number) (follows before written) written) limited row is in
     let order = passes-Ok (fault.Order number) (follows before written) written first.0 first.1 in
     let second = then-Ok (where_passes (fault.Limit number) (is_within_limits plan first.0) (packed first.0)) single row first.2 in
@@ -71,7 +71,7 @@ ComesAfter (last ∷ before) row = (last.frame ≤ row.frame) × (is_end row.kin
 record IsAccepted (plan : PlanParts) (before : List Row) (row : Row) : Type 0 where
   of_plan : is_end row.kind ≡ false → IsRowOf plan row
   few : row.frame ≤ 1_000_000
-  behind : ComesAfter before row
+  past : ComesAfter before row
 
 five_tests : (a b c d e : Bool) → (a && b && c && d && e) ≡ true → (a ≡ true) × (b ≡ true) × (c ≡ true) × (d ≡ true) × (e ≡ true)
 five_tests true true true true e passes = (refl, refl, refl, refl, passes)
@@ -132,15 +132,15 @@ receiver_below : (plan : PlanParts) (message : Bool) (receiver : ℤ) → (messa
 receiver_below plan true receiver none below = below
 receiver_below plan false receiver none below = let zero : natural_of receiver ≡ 0 = ap natural_of (none refl) in omega arith
 
-behind_last : (last_row : Bool) (last frame : ℕ) → (if last_row then int_lt (pos last) (pos frame) else int_le (pos last) (pos frame)) ≡ true
+after_last : (last_row : Bool) (last frame : ℕ) → (if last_row then int_lt (pos last) (pos frame) else int_le (pos last) (pos frame)) ≡ true
     → (last ≤ frame) × (last_row ≡ true → last < frame)
-behind_last true last frame order = (grind (arith, ints), λ yes. grind (arith, ints))
-behind_last false last frame order = (grind (arith, ints), λ yes. cc)
+after_last true last frame order = (grind (arith, ints), λ yes. grind (arith, ints))
+after_last false last frame order = (grind (arith, ints), λ yes. cc)
 
-behind_written : (before : List Row) (written : WrittenRow) → follows before written ≡ true → pos (natural_of written.frame) ≡ written.frame → ComesAfter before (packed written)
-behind_written [] written order natural = tt
-behind_written (last ∷ before) written order natural =
-    behind_last (is_end written.kind) last.frame (natural_of written.frame)
+after_written : (before : List Row) (written : WrittenRow) → follows before written ≡ true → pos (natural_of written.frame) ≡ written.frame → ComesAfter before (packed written)
+after_written [] written order natural = tt
+after_written (last ∷ before) written order natural =
+    after_last (is_end written.kind) last.frame (natural_of written.frame)
     (subst (λ (frame : ℤ). (if is_end written.kind then int_lt (pos last.frame) frame else int_le (pos last.frame) frame) ≡ true) (sym natural) order)
 
 accepted_itself : (plan : PlanParts) (before : List Row) (written : WrittenRow) → IsWritten plan written.kind written
@@ -160,7 +160,7 @@ accepted_itself plan before written reads order limits =
             apart = apart_naturals plan.replicas (is_on_a_message written.kind) written.replica written.receiver tests.1 tests.2 tests.3;
           };
       few = frame.few;
-      behind = behind_written before written order frame.natural;
+      past = after_written before written order frame.natural;
     }
 
 accepted : (plan : PlanParts) (before : List Row) (kind : Kind) (written : WrittenRow) → IsWritten plan kind written
@@ -191,18 +191,18 @@ record AreSoFar (plan : PlanParts) (before : List Row) : Type 0 where
   rows : All (IsRowOf plan) before
   order : AllPairs (λ later earlier. earlier.frame ≤ later.frame) before
 
--- no row so far is of a frame behind that of a row that follows
+-- no row so far is of a frame after that of a row that follows
 before_frame : (plan : PlanParts) (before : List Row) (row : Row) → AreSoFar plan before → ComesAfter before row → All (λ r. r.frame ≤ row.frame) before
-before_frame plan [] row so_far behind = All-nil (λ (r : Row). r.frame ≤ row.frame)
-before_frame plan (last ∷ before) row so_far behind =
-    All-cons (λ (r : Row). r.frame ≤ row.frame) last before behind.0
-    (λ k d within. let falls = so_far.order 0 (suc k) d (omega arith) (omega arith) in omega (arith, falls, behind.0))
+before_frame plan [] row so_far past = All-nil (λ (r : Row). r.frame ≤ row.frame)
+before_frame plan (last ∷ before) row so_far past =
+    All-cons (λ (r : Row). r.frame ≤ row.frame) last before past.0
+    (λ k d within. let falls = so_far.order 0 (suc k) d (omega arith) (omega arith) in omega (arith, falls, past.0))
 
 -- and all are of frames before an end row
 before_end : (plan : PlanParts) (before : List Row) (row : Row) → AreSoFar plan before → is_end row.kind ≡ true → ComesAfter before row → All (λ r. r.frame < row.frame) before
-before_end plan [] row so_far ends behind = All-nil (λ (r : Row). r.frame < row.frame)
-before_end plan (last ∷ before) row so_far ends behind =
-    let below : last.frame < row.frame = behind.1 ends in
+before_end plan [] row so_far ends past = All-nil (λ (r : Row). r.frame < row.frame)
+before_end plan (last ∷ before) row so_far ends past =
+    let below : last.frame < row.frame = past.1 ends in
     All-cons (λ (r : Row). r.frame < row.frame) last before below
     (λ k d within. let falls = so_far.order 0 (suc k) d (omega arith) (omega arith) in omega (arith, falls, below))
 
@@ -210,37 +210,37 @@ before_end plan (last ∷ before) row so_far ends behind =
 so_far_more : (plan : PlanParts) (before : List Row) (row : Row) → AreSoFar plan before → IsAccepted plan before row → is_end row.kind ≡ false → AreSoFar plan (row ∷ before)
 so_far_more plan before row so_far is_accepted goes_on = record {
   rows = All-cons (IsRowOf plan) row before (is_accepted.of_plan goes_on) so_far.rows;
-  order = AllPairs-cons (λ (later earlier : Row). earlier.frame ≤ later.frame) row before (before_frame plan before row so_far is_accepted.behind) so_far.order;
+  order = AllPairs-cons (λ (later earlier : Row). earlier.frame ≤ later.frame) row before (before_frame plan before row so_far is_accepted.past) so_far.order;
 }
 
 -- the end
-ended-Ok : (plan : PlanParts) (number : ℕ) (before : List Row) (row : Row) (rest : List Fields) (journal : JournalRows) → AreSoFar plan before → IsAccepted plan before row
-    → is_end row.kind ≡ true → ended number before row.frame rest ≡ Ok journal → AreJournalRows plan journal
-ended-Ok plan number before row [] journal so_far is_accepted ends is =
+rows_at_end-Ok : (plan : PlanParts) (number : ℕ) (before : List Row) (row : Row) (rest : List Fields) (journal : JournalRows) → AreSoFar plan before → IsAccepted plan before row
+    → is_end row.kind ≡ true → rows_at_end number before row.frame rest ≡ Ok journal → AreJournalRows plan journal
+rows_at_end-Ok plan number before row [] journal so_far is_accepted ends is =
     let same : record { rows = before; frames = row.frame } ≡ journal = cc in
     subst (AreJournalRows plan) same
-    (record { rows = so_far.rows; order = so_far.order; ends = before_end plan before row so_far ends is_accepted.behind; few = is_accepted.few })
-ended-Ok plan number before row (fields ∷ rest) journal so_far is_accepted ends is = cc
+    (record { rows = so_far.rows; order = so_far.order; ends = before_end plan before row so_far ends is_accepted.past; few = is_accepted.few })
+rows_at_end-Ok plan number before row (fields ∷ rest) journal so_far is_accepted ends is = cc
 
 rows_from-Ok : (plan : PlanParts) (number : ℕ) (before : List Row) (records : List Fields) (journal : JournalRows) → AreSoFar plan before
     → rows_from plan number before records ≡ Ok journal → AreJournalRows plan journal
 rows_from-Ok plan number before [] journal so_far is = cc
 rows_from-Ok plan number before (fields ∷ rest) journal so_far is =
-    let next : Row → Verdict JournalRows = λ row. if is_end row.kind then ended number before row.frame rest else rows_from plan (number + 1) (row ∷ before) rest in
+    let next : Row → Result JournalRows JournalFault = λ row. if is_end row.kind then rows_at_end number before row.frame rest else rows_from plan (number + 1) (row ∷ before) rest in
     let read = then-Ok (row_of plan number before fields) next journal is in
     let is_accepted = row_of-Ok plan number before fields read.0 read.1 in
     elim (cases_Bool (is_end read.0.kind)) [
-      | inl ends ↦ ended-Ok plan number before read.0 rest journal so_far is_accepted ends (rw ends at read.2)
+      | inl ends ↦ rows_at_end-Ok plan number before read.0 rest journal so_far is_accepted ends (rw ends at read.2)
       | inr goes_on ↦ rows_from-Ok plan (number + 1) (read.0 ∷ before) rest journal (so_far_more plan before read.0 so_far is_accepted goes_on) (rw goes_on at read.2)
     ]
 
-where_tested : {A : Type 0} (test : Bool) (verdict : Verdict A) (a : A) (fault : JournalFault) → (if test then verdict else Err fault) ≡ Ok a → verdict ≡ Ok a
+where_tested : {A : Type 0} (test : Bool) (verdict : Result A JournalFault) (a : A) (fault : JournalFault) → (if test then verdict else Err fault) ≡ Ok a → verdict ≡ Ok a
 where_tested true verdict a fault is = is
 where_tested false verdict a fault is = cc
 
-rows_in-Ok : (plan : PlanParts) (records : List Fields) (journal : JournalRows) → rows_in plan records ≡ Ok journal → AreJournalRows plan journal
-rows_in-Ok plan [] journal is = cc
-rows_in-Ok plan (header ∷ rest) journal is =
+rows_of_records-Ok : (plan : PlanParts) (records : List Fields) (journal : JournalRows) → rows_of_records plan records ≡ Ok journal → AreJournalRows plan journal
+rows_of_records-Ok plan [] journal is = cc
+rows_of_records-Ok plan (header ∷ rest) journal is =
     rows_from-Ok plan 1 [] rest journal (record { rows = All-nil (IsRowOf plan); order = λ i j d before within. absurd (omega arith) })
     (where_tested (is_header header) (rows_from plan 1 [] rest) journal fault.Header is)
 
@@ -248,4 +248,4 @@ rows_in-Ok plan (header ∷ rest) journal is =
 pub journal_rows-Ok : (plan : PlanParts) (bytes : List ℕ) (journal : JournalRows) → journal_rows plan bytes ≡ Ok journal → AreJournalRows plan journal
 unfolding journal_rows
 journal_rows-Ok plan bytes journal is =
-    rows_in-Ok plan (records_of bytes) journal (where_tested (nat_le (length bytes) 67_108_864) (rows_in plan (records_of bytes)) journal fault.TooLong is)
+    rows_of_records-Ok plan (records_of bytes) journal (where_tested (nat_le (length bytes) 67_108_864) (rows_of_records plan (records_of bytes)) journal fault.TooLong is)

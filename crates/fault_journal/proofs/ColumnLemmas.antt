@@ -6,7 +6,7 @@ use Rattle.std.specs.Str.{bytes_eq}
 use Rattle.rcp_model.specs.declared.plan.ActuatorRow.{ActuatorRow}
 use Rattle.rcp_model.specs.declared.plan.Variable.{Variable}
 use Rattle.rcp_model.specs.Plan.{variable_names, actuator_names}
-use Rattle.fault_journal.specs.Columns.{place_of}
+use Rattle.fault_journal.specs.Columns.{place_in}
 
 prefix_len-map : {X : Type 0} {Y : Type 0} (f : X → Y) (test : Y → Bool) (xs : List X) → prefix_len test (map f xs) ≡ prefix_len (λ x. test (f x)) xs
 prefix_len-map f test [] = refl
@@ -15,8 +15,8 @@ prefix_len-map f test (x ∷ xs) = ap (λ n. cond (test (f x)) (1 + n) 0) (prefi
 position-map : {X : Type 0} {Y : Type 0} (f : X → Y) (test : Y → Bool) (xs : List X) → position test (map f xs) ≡ position (λ x. test (f x)) xs
 position-map f test xs = rw (prefix_len-map f (λ y. not (test y)) xs, length-map xs f) refl
 
-pub variable_places : (variables : List Variable) (text : List ℕ) → place_of (variable_names variables) text ≡ position (λ variable. bytes_eq text variable.name) variables
+pub variable_places : (variables : List Variable) (text : List ℕ) → place_in (variable_names variables) text ≡ position (λ variable. bytes_eq text variable.name) variables
 variable_places variables text = position-map (λ (variable : Variable). variable.name) (bytes_eq text) variables
 
-pub actuator_places : (actuators : List ActuatorRow) (text : List ℕ) → place_of (actuator_names actuators) text ≡ position (λ actuator. bytes_eq text actuator.name) actuators
+pub actuator_places : (actuators : List ActuatorRow) (text : List ℕ) → place_in (actuator_names actuators) text ≡ position (λ actuator. bytes_eq text actuator.name) actuators
 actuator_places actuators text = position-map (λ (actuator : ActuatorRow). actuator.name) (bytes_eq text) actuators

@@ -7,7 +7,7 @@ use Rattle.rcp_model.specs.Plan.{IsPlan}
 use Rattle.rcp_model.specs.FrameLimits.{IsFrameOf}
 use Rattle.layer_stack.specs.Inputs.{IsHistoryOf}
 use Rattle.fault_journal.specs.Journal.{JournalRows, journal_rows}
-use Rattle.fault_journal.specs.History.{frame_of, history_of, journal_verdict}
+use Rattle.fault_journal.specs.History.{frame_of, history_of, journal_result}
 use Rattle.fault_journal.specs.Accepted.{AreJournalRows}
 use Rattle.fault_journal.specs.Laws.{JournalsGiveHistories}
 use Rattle.fault_journal.proofs.WithinLemmas.{frame_of-is_of_plan, frame_of-is_within_limits}
@@ -34,7 +34,7 @@ history_of-is_of_plan plan journal is_plan rows =
     }
 
 pub journals_give_histories : JournalsGiveHistories
-unfolding journal_verdict
+unfolding journal_result
 journals_give_histories plan bytes history is_plan is =
     let parts = then-Ok (journal_rows plan bytes) (λ (journal : JournalRows). Ok (history_of plan journal)) history is in
     let same : history_of plan parts.0 ≡ history = cc in

@@ -15,7 +15,7 @@ use Rattle.fault_journal.specs.declared.row.Row.{Row}
 use Rattle.fault_journal.specs.declared.journal.Journal.{Journal}
 use Rattle.fault_journal.specs.History.{frame_of, history_of}
 use Rattle.fault_journal.specs.Filling.{IsRowOf, put_all}
-use Rattle.fault_journal.specs.Telling.{IsBehind, IsOver, Tells, CanGoOn}
+use Rattle.fault_journal.specs.Telling.{IsPlaceAfter, IsOver, Tells, CanGoOn}
 use Rattle.fault_journal.proofs.SaidLemmas.{sensors_in, frame_of-built}
 use Rattle.fault_journal.proofs.FrameLemmas.{frame_begins, first_frame, sensors_next, later_rows}
 use Rattle.fault_journal.proofs.ReverseLemmas.{All-reverse, split_rows}
@@ -90,10 +90,10 @@ pub record IsRowsOfFrame (frame : ℕ) (rest : List Row) (count : ℕ) : Type 0 
   pub same : All (λ row. row.frame ≡ frame) (take count rest)
   pub other : (d : Row) → count < length rest → (get_or rest count d).frame ≢ frame
 
--- all rows behind them are of later frames
-behind_frame : (plan : PlanParts) (journal : Journal) (count : ℕ) → IsOver plan journal → IsRowsOfFrame journal.done (drop journal.place journal.rows.items) count
+-- all rows after them are of later frames
+after_frame : (plan : PlanParts) (journal : Journal) (count : ℕ) → IsOver plan journal → IsRowsOfFrame journal.done (drop journal.place journal.rows.items) count
     → All (λ row. journal.done < row.frame) (drop count (drop journal.place journal.rows.items))
-behind_frame plan journal count over of_frame k d within =
+after_frame plan journal count over of_frame k d within =
     let items = journal.rows.items in
     let rest = drop journal.place items in
     let lengths = length-drop journal.place items in
@@ -126,17 +126,17 @@ filled plan journal count over of_frame =
     let rest = drop journal.place items in
     let mid = take count rest in
     let after = drop count rest in
-    let behind = behind_frame plan journal count over of_frame in
+    let past = after_frame plan journal count over of_frame in
     let of_plan = All-take (IsRowOf plan) count rest (All-drop (IsRowOf plan) journal.place items over.rows) in
     sym (
     ap (λ (all : List Row). frame_of plan all journal.done)
     (split_rows items journal.place ∙ ap (λ (r : List Row). r ++ reverse before) (split_rows rest count) ∙ append_assoc (reverse after) (reverse mid) (reverse before))
-    ∙ later_rows plan (reverse after) (reverse mid ++ reverse before) journal.done (All-reverse (λ (r : Row). journal.done < r.frame) after behind)
+    ∙ later_rows plan (reverse after) (reverse mid ++ reverse before) journal.done (All-reverse (λ (r : Row). journal.done < r.frame) after past)
     ∙ put_all-frame plan mid (reverse before) journal.done of_frame.same of_plan)
 
--- and its rows are behind
+-- and its rows are after
 pub goes_on : (plan : PlanParts) (journal : Journal) (count : ℕ) → IsOver plan journal → IsRowsOfFrame journal.done (drop journal.place journal.rows.items) count
-    → IsBehind (journal.done + 1) journal.rows.items (journal.place + count)
+    → IsPlaceAfter (journal.done + 1) journal.rows.items (journal.place + count)
 goes_on plan journal count over of_frame =
     let items = journal.rows.items in
     let before = take journal.place items in
@@ -151,10 +151,10 @@ goes_on plan journal count over of_frame =
           (All-weaker (λ (r : Row). r.frame ≡ journal.done) (λ (r : Row). r.frame < journal.done + 1) (λ r is. omega arith) (take count rest) of_frame.same));
       ahead =
           subst (All (λ (r : Row). journal.done + 1 ≤ r.frame)) (drop-drop count journal.place items)
-          (All-weaker (λ (r : Row). journal.done < r.frame) (λ (r : Row). journal.done + 1 ≤ r.frame) (λ r lt. omega arith) (drop count rest) (behind_frame plan journal count over of_frame));
+          (All-weaker (λ (r : Row). journal.done < r.frame) (λ (r : Row). journal.done + 1 ≤ r.frame) (λ r lt. omega arith) (drop count rest) (after_frame plan journal count over of_frame));
     }
 
--- the sensors behind a frame that is there
+-- the sensors after a frame that is there
 sensors-after : (plan : PlanParts) (history : History) (frame : ℕ) (d : FrameRows) → frame < length history
     → sensors_after plan (past_of history (suc frame)) ≡ (get_or history frame d).sensors
 sensors-after plan history frame d below =

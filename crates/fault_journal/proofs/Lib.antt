@@ -3,7 +3,6 @@ pub mod LimitLemmas
 pub mod NumberLemmas
 pub mod RowLemmas
 pub mod SeenLemmas
-pub mod FaultLemmas
 pub mod RecordLemmas
 pub mod RowsLemmas
 pub mod GridLemmas

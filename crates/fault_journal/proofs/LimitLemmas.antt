@@ -3,11 +3,12 @@ use Rattle.std.proofs.Common.{◌≡◌, ℕ, ◌+◌, ◌<◌, ◌≤◌, Bool,
 use Rattle.std.proofs.lemmas.Bool.{and_parts, ltb-true, leb-true}
 use Rattle.std.proofs.lemmas.Int.{to_z_pos}
 use Rattle.std.specs.Ordering.{int_eq}
+use Rattle.rcp_base.specs.Answers.{natural_of}
 use Rattle.rcp_model.specs.declared.plan.PlanParts.{PlanParts}
 use Rattle.fault_journal.specs.declared.row.Kind.{Kind}
 use Rattle.fault_journal.specs.declared.row.Kind.TheVariants as kind
 use Rattle.fault_journal.specs.declared.row.WrittenRow.{WrittenRow}
-use Rattle.fault_journal.specs.Limits.{is_below, frame_is_there, is_on_a_message, value_is_permitted, is_within_limits, natural_of}
+use Rattle.fault_journal.specs.Limits.{is_below, frame_is_there, is_on_a_message, value_is_permitted, is_within_limits}
 use mir.Syntax.{w64}
 
 -- a number from 0 to so many

@@ -11,6 +11,7 @@ use Rattle.std.specs.List.{list_all}
 use Rattle.std.specs.Result.{result_ok, OkIff}
 use Rattle.std.specs.Str.{IsAscii, IsUtf8}
 use Rattle.std.specs.Str.Parse.{AllDigits, IsNumeral, digits_value, starts_with_minus, without_leading_sign, ParsesSigned}
+use Rattle.fault_journal.specs.Fault.{is_journal_memory}
 use Rattle.fault_journal.specs.Number.{digits_in, is_number, worth, fits_in_64_bits}
 use mir.Syntax.{w64}
 
@@ -23,15 +24,15 @@ numeral_in text is =
     let parts = and_parts (nat_le 1 (length (digits_in text))) (list_all is_ascii_digit (digits_in text)) is in
     (leb-true 1 (length (digits_in text)) parts.0, numerals.to (digits_in text) parts.1)
 
-ascii_behind_minus : (digits : List ℕ) → IsAscii digits → IsAscii (45 ∷ digits)
-ascii_behind_minus digits are zero = omega arith
-ascii_behind_minus digits are (suc i) = are i
+ascii_after_minus : (digits : List ℕ) → IsAscii digits → IsAscii (45 ∷ digits)
+ascii_after_minus digits are zero = omega arith
+ascii_after_minus digits are (suc i) = are i
 
 number_is_ascii : (text : List ℕ) → AllDigits 10 (digits_in text) → IsAscii text
 number_is_ascii [] digits = IsAscii-from_digits [] digits
 number_is_ascii (b ∷ bs) digits =
     elim (eqb_tells b 45) [
-      | inl minus ↦ rw minus.1 (ascii_behind_minus bs (IsAscii-from_digits bs (rw minus.0 at digits)))
+      | inl minus ↦ rw minus.1 (ascii_after_minus bs (IsAscii-from_digits bs (rw minus.0 at digits)))
       | inr other ↦ IsAscii-from_digits (b ∷ bs) (rw other.0 at digits)
     ]
 
@@ -79,4 +80,4 @@ worth_is_parsed text result is parses =
     OkIff result (IsNumeral 10 digits × FitsSigned w64 (signed (starts_with_minus text) digits)) (signed (starts_with_minus text) digits)
     in
     given_where result _ (fits_in_64_bits (worth text)) (worth text) (λ fits. (numeral, fits_forth (worth text) fits))
-    (λ holds. fits_back (worth text) holds.1) (subst Gives (without_sign text numeral.1) parses)
+    (λ holds. fits_back (worth text) holds.1) (subst Gives is_journal_memory (without_sign text numeral.1) parses)

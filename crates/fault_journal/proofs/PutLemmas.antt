@@ -1,15 +1,16 @@
--- What is put into a frame: a row by its kind, all sensors, rows one behind the other.
+-- What is put into a frame: a row by its kind, all sensors, rows one after the other.
 use Rattle.std.proofs.Common.{◌≡◌, ℕ, ◌+◌, ◌<◌, List, [], ◌∷◌, ◌++◌, length, get_or, set, take, drop, reverse, ℤ, pos, negsuc, nat_abs, true, All, sym, refl, ap, ◌∙◌, arith, subst, append_assoc, length-take-le}
 use Rattle.std.proofs.lemmas.Int.{ints}
 use Rattle.std.proofs.lemmas.List.{reverse-append, drop_more, take_more, set_at}
 use Rattle.std.proofs.lemmas.List.Elements.{All-head, All-tail}
+use Rattle.rcp_base.specs.Answers.{natural_of}
 use Rattle.rcp_model.specs.declared.plan.PlanParts.{PlanParts}
 use Rattle.rcp_model.specs.FrameRows.{FrameRows, AreRowsOf}
 use Rattle.rcp_model.specs.RowWrites.{with_sensor}
 use Rattle.fault_journal.specs.declared.row.Kind.{Kind}
 use Rattle.fault_journal.specs.declared.row.Kind.TheVariants as kind
 use Rattle.fault_journal.specs.declared.row.Row.{Row}
-use Rattle.fault_journal.specs.Limits.{value_is_permitted, is_below, natural_of}
+use Rattle.fault_journal.specs.Limits.{value_is_permitted, is_below}
 use Rattle.fault_journal.specs.History.{frame_of}
 use Rattle.fault_journal.specs.Filling.{IsRowOf, put_by, put_row, put_all}
 use Rattle.rcp_model.proofs.FrameOfLaws.{sensor_rows, down_rows, cell_rows, slot_rows, act_rows, lie_rows, lie_slot_rows, drop_rows, skew_rows, rate_rows, delay_rows}
@@ -59,7 +60,7 @@ set_more rows now values i value below same is so_far =
     ap (λ (r : FrameRows). record r { sensors = set r.sensors i value }) so_far
     ∙ ap (λ (t : List ℤ). record rows { sensors = t }) (set_front values rows.sensors i value below (omega arith) is)
 
--- rows of the frame at hand, one behind the other
+-- rows of the frame at hand, one after the other
 pub put_all-frame : (plan : PlanParts) (more before : List Row) (frame : ℕ) → All (λ row. row.frame ≡ frame) more → All (IsRowOf plan) more
     → frame_of plan (reverse more ++ before) frame ≡ put_all (frame_of plan before frame) more
 put_all-frame plan [] before frame same of_plan = refl

@@ -11,7 +11,7 @@ use Rattle.csv.specs.declared.parser.Config.{Config}
 use Rattle.csv.specs.declared.parser.State.{State}
 use Rattle.csv.specs.declared.parser.State.TheVariants as st
 use Rattle.fault_journal.specs.Journal.{Fields, records_of}
-use Rattle.fault_journal.specs.Records.{CanRead, CanReadOn, Takes, bytes_left, reading_of, records_left}
+use Rattle.fault_journal.specs.Records.{CanRead, CanReadOn, Takes, bytes_left, records_view, records_left}
 
 -- a read that ends here, or goes on
 ends_or_goes_on : (ends : Bool) (here : Read) (further : Option Read) (p : Read) (n : ℕ)
@@ -49,13 +49,13 @@ takes_a_byte cfg s fields field c (d ∷ rest) p is =
     (next_record cfg (step cfg s c).0 (fields_after (step cfg s c).1 fields field) (field_after (step cfg s c).1 c field) (d ∷ rest)) p (suc (length rest)) is (omega arith)
     (λ on. omega (arith, takes_a_byte cfg (step cfg s c).0 (fields_after (step cfg s c).1 fields field) (field_after (step cfg s c).1 c field) d rest p on))
 
--- behind the end of the text there is no record
-none_behind_the_end : (cfg : Config) (n : ℕ) → records_from cfg n st.StartRecord [] ≡ []
+-- after the end of the text there is no record
+none_after_the_end : (cfg : Config) (n : ℕ) → records_from cfg n st.StartRecord [] ≡ []
 unfolding records_from next_record
-none_behind_the_end cfg zero = refl
-none_behind_the_end cfg (suc n) = refl
+none_after_the_end cfg zero = refl
+none_after_the_end cfg (suc n) = refl
 
--- what a read gives is the same by two bounds, if what is behind it is
+-- what a read gives is the same by two bounds, if what is after it is
 enough_next : (cfg : Config) (n m : ℕ) (s : State) (xs : List ℕ) (next : Option Read)
     → ((t : State) (ys : List ℕ) → length ys < n → length ys < m → records_from cfg n t ys ≡ records_from cfg m t ys)
     → next_record cfg s [] [] xs ≡ next → length xs ≤ n → length xs ≤ m
@@ -63,7 +63,7 @@ enough_next : (cfg : Config) (n m : ℕ) (s : State) (xs : List ℕ) (next : Opt
 enough_next cfg n m s xs None same is below under = refl
 enough_next cfg n m s [] (Some p) same is below under =
     let last = read_at_end cfg s [] [] p is in
-    ap (λ more. p.0 ∷ more) (rw (last.0, last.1) (none_behind_the_end cfg n ∙ sym (none_behind_the_end cfg m)))
+    ap (λ more. p.0 ∷ more) (rw (last.0, last.1) (none_after_the_end cfg n ∙ sym (none_after_the_end cfg m)))
 enough_next cfg n m s (c ∷ xs) (Some p) same is below under =
     let short = takes_a_byte cfg s [] [] c xs p is in
     ap (λ more. p.0 ∷ more) (same p.1 p.2 (omega arith) (omega arith))
@@ -76,13 +76,13 @@ enough cfg (suc n) zero s xs big large = absurd (omega arith)
 enough cfg (suc n) (suc m) s xs big large =
     enough_next cfg n m s xs (next_record cfg s [] [] xs) (λ t ys. enough cfg n m t ys) refl (omega arith) (omega arith)
 
--- what is left behind a record
-left_behind : (cfg : Config) (s : State) (xs : List ℕ) (p : Read)
+-- what is left after a record
+left_after : (cfg : Config) (s : State) (xs : List ℕ) (p : Read)
     → next_record cfg s [] [] xs ≡ Some p → records_from cfg (length xs) p.1 p.2 ≡ records_from cfg (length p.2 + 1) p.1 p.2
-left_behind cfg s [] p is =
+left_after cfg s [] p is =
     let last = read_at_end cfg s [] [] p is in
-    rw (last.0, last.1) (none_behind_the_end cfg 0 ∙ sym (none_behind_the_end cfg 1))
-left_behind cfg s (c ∷ xs) p is =
+    rw (last.0, last.1) (none_after_the_end cfg 0 ∙ sym (none_after_the_end cfg 1))
+left_after cfg s (c ∷ xs) p is =
     let short = takes_a_byte cfg s [] [] c xs p is in
     enough cfg (length (c ∷ xs)) (length p.2 + 1) p.1 p.2 (omega arith) (omega arith)
 
@@ -92,7 +92,7 @@ takes_read : (s t : State) (xs ys : List ℕ) (found : Bool) (row : Row) (next :
     → Takes (records_next (records_from default_config (length xs)) next) found (record { at_hand = row; left = records_left t (Some ys) })
 takes_read s t xs ys found row None is read = read
 takes_read s t xs ys found row (Some p) is read =
-    (read.0, read.1, rw (read.2, read.3) (sym (left_behind default_config s xs p is)))
+    (read.0, read.1, rw (read.2, read.3) (sym (left_after default_config s xs p is)))
 
 takes_next : (s t : State) (old new : Option (List ℕ)) (found : Bool) (row : Row)
     → IsSome old → ReadsNext default_config s old new found (fields_of row) t
@@ -106,23 +106,23 @@ takes_next s t (Some xs) (Some ys) found row known read =
 -- a read takes the first of the records that were left, where the reader has not failed
 takes_on : (old new : Reader (Bor (List ℕ))) (row : Row) (found : Bool) → CanRead old
     → ReadRecord (λ bytes. Some bytes.now) old new found (fields_of row)
-    → Takes (records_left old.state (bytes_left old)) found (reading_of new row)
+    → Takes (records_left old.state (bytes_left old)) found (records_view new row)
 takes_on old new row found can read =
     rw read.1 (takes_next old.state new.state (bytes_left old) _ found row can.known (rw can.usual at read.0))
 
 pub takes : (old new : Reader (Bor (List ℕ))) (row : Row) (found : Bool)
     → CanReadOn old → (has_failed old ≡ true → found ≡ false)
     → (old.trim ≡ trim.None → Ready old → ReadRecord (λ bytes. Some bytes.now) old new found (fields_of row))
-    → Takes (records_left old.state (bytes_left old)) found (reading_of new row)
+    → Takes (records_left old.state (bytes_left old)) found (records_view new row)
 takes old new row found can none read = at (has_failed old) refl
   where
-    at : (failed : Bool) → has_failed old ≡ failed → Takes (records_left old.state (bytes_left old)) found (reading_of new row)
+    at : (failed : Bool) → has_failed old ≡ failed → Takes (records_left old.state (bytes_left old)) found (records_view new row)
     at true is = rw is (none is)
     at false is =
         let able = can is in
         takes_on old new row found able (read able.plain able.ready)
 
--- what a read gives is short, if what is behind it is
+-- what a read gives is short, if what is after it is
 few_next : (cfg : Config) (n : ℕ) (next : Option Read) → ((t : State) (ys : List ℕ) → length (records_from cfg n t ys) ≤ n)
     → length (records_next (records_from cfg n) next) ≤ suc n
 few_next cfg n None few = omega arith

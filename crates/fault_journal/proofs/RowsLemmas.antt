@@ -1,15 +1,16 @@
--- The header, the rows behind it and the end row, one after the other.
+-- The header, the rows after it and the end row, one after the other.
 -- This project's own.
 use Rattle.std.proofs.Common.{◌≡◌, ℕ, ◌+◌, ◌≤◌, ◌<◌, List, [], ◌∷◌, length, Bool, true, false, cond, eqb, leb, Ok, Err, refl, ap, sym, ◌∙◌, arith}
 use Rattle.std.proofs.lemmas.Bool.{lt-leb, le-leb, ne_eqb}
 use Rattle.csv.specs.Records.{field_at}
+use Rattle.rcp_base.specs.Answers.{IsFaultOr}
+use Rattle.fault_journal.specs.Fault.{is_journal_memory}
 use Rattle.rcp_model.specs.declared.plan.PlanParts.{PlanParts}
 use Rattle.fault_journal.specs.declared.fault.JournalFault.{JournalFault}
 use Rattle.fault_journal.specs.declared.fault.JournalFault.TheVariants as fault
-use Rattle.fault_journal.specs.Answers.{IsFault}
-use Rattle.fault_journal.specs.Journal.{Fields, is_header, journal_rows, records_of, rows_from, rows_in}
-use Rattle.fault_journal.specs.Rows.{behind_header, has_header}
-use Rattle.fault_journal.proofs.FaultLemmas.{fault_along}
+use Rattle.fault_journal.specs.Journal.{Fields, is_header, journal_rows, records_of, rows_from, rows_of_records}
+use Rattle.fault_journal.specs.Rows.{after_header, has_header}
+use Rattle.rcp_base.proofs.ReaderLaws.{fault_along}
 use Rattle.fault_journal.proofs.RecordLemmas.{few_records}
 
 -- the header's fields, each by its place
@@ -27,7 +28,7 @@ header_by_place (a ∷ b ∷ c ∷ d ∷ e ∷ f ∷ g ∷ rest) =
     rw long refl
 
 -- a header that is none
-no_header : (plan : PlanParts) (records : List Fields) (why : JournalFault) → behind_header records ≡ Err why → rows_in plan records ≡ Err why
+no_header : (plan : PlanParts) (records : List Fields) (why : JournalFault) → after_header records ≡ Err why → rows_of_records plan records ≡ Err why
 no_header plan [] why is =
     let same : fault.Header ≡ why = cc is in
     ap Err same
@@ -39,16 +40,16 @@ no_header plan (header ∷ rest) why is = at (is_header header) is
         let same : fault.Header ≡ why = cc here in
         ap Err same
 
--- a header, and what is behind it
-header_first : (plan : PlanParts) (records rest : List Fields) → behind_header records ≡ Ok rest
-    → (rows_in plan records ≡ rows_from plan 1 [] rest) × (length rest + 1 ≤ length records)
+-- a header, and what is after it
+header_first : (plan : PlanParts) (records rest : List Fields) → after_header records ≡ Ok rest
+    → (rows_of_records plan records ≡ rows_from plan 1 [] rest) × (length rest + 1 ≤ length records)
 header_first plan [] rest is = cc is
-header_first plan (header ∷ behind) rest is = at (is_header header) is
+header_first plan (header ∷ past) rest is = at (is_header header) is
   where
-    at : (b : Bool) → cond b (Ok behind) (Err fault.Header) ≡ Ok rest
-        → (cond b (rows_from plan 1 [] behind) (Err fault.Header) ≡ rows_from plan 1 [] rest) × (length rest + 1 ≤ length (header ∷ behind))
+    at : (b : Bool) → cond b (Ok past) (Err fault.Header) ≡ Ok rest
+        → (cond b (rows_from plan 1 [] past) (Err fault.Header) ≡ rows_from plan 1 [] rest) × (length rest + 1 ≤ length (header ∷ past))
     at true here =
-        let same : behind ≡ rest = cc in
+        let same : past ≡ rest = cc in
         rw same (refl, omega arith)
     at false here = cc here
 
@@ -59,7 +60,7 @@ too_long plan bytes long =
     let is : leb (length bytes) 67_108_864 ≡ false = lt-leb (length bytes) 67_108_864 long in
     rw is refl
 
-short_enough : (plan : PlanParts) (bytes : List ℕ) → length bytes ≤ 67_108_864 → journal_rows plan bytes ≡ rows_in plan (records_of bytes)
+short_enough : (plan : PlanParts) (bytes : List ℕ) → length bytes ≤ 67_108_864 → journal_rows plan bytes ≡ rows_of_records plan (records_of bytes)
 unfolding journal_rows
 short_enough plan bytes short =
     let is : leb (length bytes) 67_108_864 ≡ true = le-leb (length bytes) 67_108_864 short in
@@ -67,21 +68,21 @@ short_enough plan bytes short =
 
 -- a header that is none is the journal's fault
 pub no_journal : (plan : PlanParts) (bytes : List ℕ) (records : List Fields) (why : JournalFault)
-    → length bytes ≤ 67_108_864 → records ≡ records_of bytes → IsFault why (behind_header records) → IsFault why (journal_rows plan bytes)
+    → length bytes ≤ 67_108_864 → records ≡ records_of bytes → IsFaultOr (is_journal_memory why) why (after_header records) → IsFaultOr (is_journal_memory why) why (journal_rows plan bytes)
 no_journal plan bytes records why short are said =
-    fault_along why (behind_header records) (journal_rows plan bytes) said
-    (λ is. short_enough plan bytes short ∙ (ap (rows_in plan) (sym are) ∙ no_header plan records why is))
+    fault_along (is_journal_memory why) why (after_header records) (journal_rows plan bytes) said
+    (λ is. short_enough plan bytes short ∙ (ap (rows_of_records plan) (sym are) ∙ no_header plan records why is))
 
--- behind a header, the rows are the journal's
-pub journal_behind : (plan : PlanParts) (bytes : List ℕ) (records rest : List Fields)
-    → length bytes ≤ 67_108_864 → records ≡ records_of bytes → behind_header records ≡ Ok rest
+-- after a header, the rows are the journal's
+pub journal_after_header : (plan : PlanParts) (bytes : List ℕ) (records rest : List Fields)
+    → length bytes ≤ 67_108_864 → records ≡ records_of bytes → after_header records ≡ Ok rest
     → journal_rows plan bytes ≡ rows_from plan 1 [] rest
-journal_behind plan bytes records rest short are is =
-    short_enough plan bytes short ∙ (ap (rows_in plan) (sym are) ∙ (header_first plan records rest is).0)
+journal_after_header plan bytes records rest short are is =
+    short_enough plan bytes short ∙ (ap (rows_of_records plan) (sym are) ∙ (header_first plan records rest is).0)
 
 -- and they are few
-pub few_behind : (plan : PlanParts) (bytes : List ℕ) (records rest : List Fields)
-    → length bytes ≤ 67_108_864 → records ≡ records_of bytes → behind_header records ≡ Ok rest
+pub few_after_header : (plan : PlanParts) (bytes : List ℕ) (records rest : List Fields)
+    → length bytes ≤ 67_108_864 → records ≡ records_of bytes → after_header records ≡ Ok rest
     → length rest ≤ 67_108_864
-few_behind plan bytes records rest short are is =
+few_after_header plan bytes records rest short are is =
     omega (arith, few_records bytes, ap length are, (header_first plan records rest is).1)

@@ -5,6 +5,7 @@ use Rattle.std.proofs.lemmas.Bool.{false_from_ne_true}
 use Rattle.std.proofs.lemmas.Bool.Decides.{nat_tests}
 use Rattle.std.proofs.lemmas.Nat.{div-mul-add, mod-mul-add, mul-add-lt}
 use Rattle.rcp_base.specs.Tables.{table}
+use Rattle.rcp_base.specs.Answers.{natural_of}
 use Rattle.rcp_model.specs.declared.plan.PlanParts.{PlanParts}
 use Rattle.rcp_model.specs.Uniprocessor.{initial_values}
 use Rattle.rcp_model.specs.FrameRows.{FrameRows}
@@ -13,7 +14,6 @@ use Rattle.fault_journal.specs.declared.row.Kind.{Kind}
 use Rattle.fault_journal.specs.declared.row.Kind.TheVariants as kind
 use Rattle.fault_journal.specs.declared.row.Row.{Row}
 use Rattle.fault_journal.specs.Journal.{same_kind}
-use Rattle.fault_journal.specs.Limits.{natural_of}
 use Rattle.fault_journal.specs.History.{grid, said, speaks_of, sensor_value, sets_sensor_by, frame_of}
 use Rattle.fault_journal.specs.Filling.{put_row, IsRowOf}
 use Rattle.fault_journal.proofs.GridLemmas.{table_set, grid_set}
@@ -185,9 +185,9 @@ set_sensor kind.Sensor plan rows frame replica receiver item value row =
     let now = le-leb frame frame (omega arith) in
     let initial : ℕ → ℤ = λ sensor. slice_index_or (initial_values plan.sensors) sensor (pos 0) in
     let before : ℕ → ℤ = λ sensor. sensor_value rows frame sensor (initial sensor) in
-    let behind : ℕ → ℤ = λ sensor. unwrap_or (option_map (λ (r : Row). r.value) (cond (item == sensor) (Some (record { frame = frame; kind = kind.Sensor; replica = replica; receiver = receiver; item = item; value = value })) (find (sets_sensor_by frame sensor) rows))) (initial sensor) in
+    let past : ℕ → ℤ = λ sensor. unwrap_or (option_map (λ (r : Row). r.value) (cond (item == sensor) (Some (record { frame = frame; kind = kind.Sensor; replica = replica; receiver = receiver; item = item; value = value })) (find (sets_sensor_by frame sensor) rows))) (initial sensor) in
     rw now
-    (table_set (length plan.sensors) behind before item value row.item
+    (table_set (length plan.sensors) past before item value row.item
     (rw (eq-eqb item item refl) refl)
     (λ sensor not. rw (ne_eqb item sensor (λ same. not (sym same))) refl))
 set_sensor _ plan rows frame replica receiver item value row = rw (le-leb frame frame (omega arith)) refl

@@ -5,7 +5,7 @@ use Rattle.std.proofs.lemmas.List.Elements.{All-head, All-tail}
 use Rattle.std.specs.List.{list_any, All}
 use Rattle.fault_journal.specs.declared.row.Row.{Row}
 use Rattle.fault_journal.specs.Journal.{kind_number, repeats}
-use Rattle.fault_journal.specs.Seen.{HasPlace, place_of, stamp_at, FallFrom}
+use Rattle.fault_journal.specs.Seen.{HasPlace, key_place, stamp_at, FallFrom}
 
 -- one place has one key
 same_place : (k k' r r' q q' i i' : ℕ) → r < 9 → r' < 9 → q < 9 → q' < 9 → i < 64 → i' < 64
@@ -13,13 +13,13 @@ same_place : (k k' r r' q q' i i' : ℕ) → r < 9 → r' < 9 → q < 9 → q' <
 same_place k k' r r' q q' i i' a a' b b' c c' same = (omega arith, omega arith, omega arith, omega arith)
 
 -- a row repeats those of its place that have its frame
-repeats_there : (row other : Row) → HasPlace row → HasPlace other → place_of other ≡ place_of row → repeats row other ≡ (other.frame == row.frame)
+repeats_there : (row other : Row) → HasPlace row → HasPlace other → key_place other ≡ key_place row → repeats row other ≡ (other.frame == row.frame)
 repeats_there row other here there same =
     let parts = same_place (kind_number other.kind) (kind_number row.kind) other.replica row.replica other.receiver row.receiver other.item row.item
     there.replica here.replica there.receiver here.receiver there.item here.item same in
     grind (arith, nat_tests)
 
-repeats_elsewhere : (row other : Row) → (place_of other ≡ place_of row → ⊥) → repeats row other ≡ false
+repeats_elsewhere : (row other : Row) → (key_place other ≡ key_place row → ⊥) → repeats row other ≡ false
 repeats_elsewhere row other apart = grind (arith, nat_tests)
 
 repeats_no_other : (row other : Row) → (other.frame == row.frame) ≡ false → repeats row other ≡ false
@@ -44,10 +44,10 @@ none_repeats row most (other ∷ before) falls less =
 
 -- the stamp at a row's place tells whether the row repeats one before
 pub repeats_by_stamp : (row : Row) (before : List Row) → HasPlace row → All HasPlace before → FallFrom row.frame before
-    → nat_eq (stamp_at before (place_of row)) (row.frame + 1) ≡ list_any (repeats row) before
+    → nat_eq (stamp_at before (key_place row)) (row.frame + 1) ≡ list_any (repeats row) before
 repeats_by_stamp row [] here places falls = grind (arith, nat_tests)
 repeats_by_stamp row (other ∷ before) here places falls =
-    elim (eqb_tells (place_of other) (place_of row)) [
+    elim (eqb_tells (key_place other) (key_place row)) [
       | inl same ↦
           rw same.0
           (first_decides (repeats row other) (list_any (repeats row) before) other.frame row.frame falls.0

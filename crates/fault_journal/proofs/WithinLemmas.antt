@@ -4,17 +4,18 @@ use Rattle.std.specs.Prelude.{is_some}
 use Rattle.std.proofs.lemmas.Int.{ints}
 use Rattle.std.proofs.lemmas.List.Elements.{All-head, All-tail}
 use Rattle.rcp_base.proofs.TableLaws.{length-table}
+use Rattle.rcp_base.specs.Answers.{natural_of}
 use Rattle.rcp_model.specs.declared.plan.PlanParts.{PlanParts}
 use Rattle.rcp_model.specs.Plan.{IsPlan}
 use Rattle.rcp_model.specs.Slot.{slot_count}
 use Rattle.rcp_model.specs.TimingRules.{delay_limit_of}
 use Rattle.rcp_model.specs.FrameRows.{AreRowsOf, slot_row, lie_row, lie_slot_row, is_dropped, skew_of, rate_of, delay_of}
-use Rattle.rcp_model.specs.FrameLimits.{AreWithinLimits, IsUntouchedByItself, IsWithin}
+use Rattle.rcp_model.specs.FrameLimits.{HasLimits, IsUntouchedByItself, IsWithin}
 use Rattle.fault_journal.specs.declared.row.Kind.{Kind}
 use Rattle.fault_journal.specs.declared.row.Kind.TheVariants as kind
 use Rattle.fault_journal.specs.declared.row.Row.{Row}
 use Rattle.fault_journal.specs.Journal.{kind_number, same_kind}
-use Rattle.fault_journal.specs.Limits.{natural_of, is_on_a_message, value_is_permitted, is_below, is_within, is_up_to}
+use Rattle.fault_journal.specs.Limits.{is_on_a_message, value_is_permitted, is_below, is_within, is_up_to}
 use Rattle.fault_journal.specs.History.{said, speaks_of, frame_of}
 use Rattle.fault_journal.specs.Filling.{IsRowOf}
 use Rattle.fault_journal.proofs.GridLemmas.{at_table, at_grid, at_own, at_own_lie}
@@ -207,7 +208,7 @@ own_of plan rows frame of_plan p =
 
 -- so the frame is within the limits
 pub frame_of-is_within_limits : (plan : PlanParts) (rows : List Row) (frame : ℕ) → IsPlan plan → All (IsRowOf plan) rows
-    → AreWithinLimits plan (frame_of plan rows frame)
+    → HasLimits plan (frame_of plan rows frame)
 unfolding frame_of slot_row lie_slot_row skew_of rate_of delay_of IsPermitted SlotsAreBelow IsDelay
 frame_of-is_within_limits plan rows frame is_plan of_plan =
     let range = is_plan.timing_range in

@@ -1,10 +1,11 @@
 -- What the tests of a row say of a row that passes them.
-use Rattle.std.proofs.Common.{◌≡◌, ℕ, ◌+◌, ◌<◌, ◌≤◌, List, [], ◌∷◌, length, Option, Some, None, option_map, Ok, Err, ℤ, pos, Bool, true, false, ◌||◌, if◌then◌else◌, MatchOption, nat_eq, sym, refl, ap, ◌∙◌, arith, subst}
+use Rattle.std.proofs.Common.{◌≡◌, ℕ, ◌+◌, ◌<◌, ◌≤◌, List, [], ◌∷◌, length, Option, Some, None, option_map, Ok, Err, ℤ, pos, Bool, true, false, ◌||◌, if◌then◌else◌, MatchOption, nat_eq, sym, refl, ap, ◌∙◌, arith, subst, Result}
 use Rattle.std.proofs.lemmas.Bool.{or_parts}
 use Rattle.std.specs.Option.{option_or}
 use Rattle.std.proofs.lemmas.List.{length-map}
 use Rattle.std.proofs.lemmas.List.Quantifiers.{position-Some}
 use Rattle.std.specs.Str.{bytes_eq}
+use Rattle.rcp_base.specs.Answers.{◌>>=◌, found_or, where_passes}
 use Rattle.rcp_model.specs.declared.plan.Variable.{Variable}
 use Rattle.rcp_model.specs.declared.plan.ActuatorRow.{ActuatorRow}
 use Rattle.rcp_model.specs.declared.plan.PlanParts.{PlanParts}
@@ -16,14 +17,13 @@ use Rattle.fault_journal.specs.declared.row.Kind.TheVariants as kind
 use Rattle.fault_journal.specs.declared.row.Column.{Column}
 use Rattle.fault_journal.specs.declared.row.Column.TheVariants as column
 use Rattle.fault_journal.specs.declared.row.WrittenRow.{WrittenRow}
-use Rattle.fault_journal.specs.Verdict.{Verdict, ◌>>=◌, found_or, where_passes}
-use Rattle.fault_journal.specs.Number.{number_of}
-use Rattle.fault_journal.specs.Columns.{columns_of, place_of, with_column, with_columns, bare_row, written_row}
+use Rattle.fault_journal.specs.Number.{integer_of}
+use Rattle.fault_journal.specs.Columns.{columns_of, place_in, with_column, with_columns, bare_row, written_row}
 use Rattle.fault_journal.specs.Limits.{is_on_a_message}
 use Rattle.fault_journal.specs.Filling.{item_count}
 
 -- what was read first, where what follows gave something
-pub then-Ok : {A B : Type 0} (first : Verdict A) (next : A → Verdict B) (b : B) → (first >>= next) ≡ Ok b → (a : A) × (first ≡ Ok a) × (next a ≡ Ok b)
+pub then-Ok : {A B : Type 0} (first : Result A JournalFault) (next : A → Result B JournalFault) (b : B) → (first >>= next) ≡ Ok b → (a : A) × (first ≡ Ok a) × (next a ≡ Ok b)
 then-Ok (Ok a) next b is = (a, refl, is)
 then-Ok (Err fault) next b is = cc
 
@@ -66,9 +66,9 @@ reads_given names receives row next put given each is =
     subst (Reads names receives row) found.2 (each found.0 found.1)
 
 reads_name : (names : List (List ℕ)) (count : ℕ) (row next : WrittenRow) (text : List ℕ) → length names ≡ count
-    → option_map (λ (place : ℕ). record row { item = place }) (place_of names text) ≡ Some next → Reads (Some count) false row next
+    → option_map (λ (place : ℕ). record row { item = place }) (place_in names text) ≡ Some next → Reads (Some count) false row next
 reads_name names count row next text lengths is =
-    reads_given (Some count) false row next (λ (place : ℕ). record row { item = place }) (place_of names text)
+    reads_given (Some count) false row next (λ (place : ℕ). record row { item = place }) (place_in names text)
     (λ place given.
     let below : place < length names = (position-Some (bytes_eq text) names place [] given).0 in
     record { frame = refl; kind = refl; receiver = λ no. refl; item = omega arith })
@@ -84,10 +84,10 @@ with_column-reads : (plan : PlanParts) (row next : WrittenRow) (column : Column)
     → Reads (names_in plan column) (is_receiver column) row next
 unfolding with_column names_in is_receiver
 with_column-reads plan row next column.Replica text is =
-    reads_given None false row next (λ (number : ℤ). record row { replica = number }) (number_of text)
+    reads_given None false row next (λ (number : ℤ). record row { replica = number }) (integer_of text)
     (λ number given. record { frame = refl; kind = refl; receiver = λ no. refl; item = refl }) is
 with_column-reads plan row next column.Receiver text is =
-    reads_given None true row next (λ (number : ℤ). record row { receiver = number }) (number_of text)
+    reads_given None true row next (λ (number : ℤ). record row { receiver = number }) (integer_of text)
     (λ number given. record { frame = refl; kind = refl; receiver = λ no. cc; item = refl }) is
 with_column-reads plan row next column.SensorName text is =
     reads_name (variable_names plan.sensors) (length plan.sensors) row next text (length-map plan.sensors (λ (v : Variable). v.name)) is
@@ -96,7 +96,7 @@ with_column-reads plan row next column.CellName text is =
 with_column-reads plan row next column.ActuatorName text is =
     reads_name (actuator_names plan.actuators) (length plan.actuators) row next text (length-map plan.actuators (λ (a : ActuatorRow). a.name)) is
 with_column-reads plan row next column.Value text is =
-    reads_given None false row next (λ (number : ℤ). record row { value = number }) (number_of text)
+    reads_given None false row next (λ (number : ℤ). record row { value = number }) (integer_of text)
     (λ number given. record { frame = refl; kind = refl; receiver = λ no. refl; item = refl }) is
 with_column-reads plan row next column.Nothing text is = reads_nothing (nat_eq (length text) 0) row next is
 
@@ -173,7 +173,7 @@ pub written_row-Ok : (plan : PlanParts) (number : ℕ) (frame : List ℕ) (kind 
     → written_row plan number frame kind texts ≡ Ok row → IsWritten plan kind row
 unfolding written_row
 written_row-Ok plan number frame kind texts row four is =
-    let parts = then-Ok (found_or (fault.Column number 1) (number_of frame)) (λ at. with_columns plan number 3 (bare_row at kind) (columns_of kind) texts) row is in
+    let parts = then-Ok (found_or (fault.Column number 1) (integer_of frame)) (λ at. with_columns plan number 3 (bare_row at kind) (columns_of kind) texts) row is in
     let few = four_columns kind in
     let reads = with_columns-reads plan number 3 (bare_row parts.0 kind) row (columns_of kind) texts (omega arith) parts.2 in
     record {

@@ -1,5 +1,6 @@
 -- What the rows of a journal keep together. This project's own.
 use Rattle.std.specs.Prelude.{◌<◌, ◌≤◌, All, AllPairs}
+use Rattle.rcp_base.specs.declared.TheConstants.{MAX_FRAMES}
 use Rattle.rcp_model.specs.declared.plan.PlanParts.{PlanParts}
 use Rattle.fault_journal.specs.Journal.{JournalRows}
 use Rattle.fault_journal.specs.Filling.{IsRowOf}
@@ -9,4 +10,4 @@ pub record AreJournalRows (plan : PlanParts) (journal : JournalRows) : Type 0 wh
   pub rows : All (IsRowOf plan) journal.rows
   pub order : AllPairs (λ later earlier. earlier.frame ≤ later.frame) journal.rows
   pub ends : All (λ row. row.frame < journal.frames) journal.rows
-  pub few : journal.frames ≤ 1_000_000
+  pub few : journal.frames ≤ MAX_FRAMES

@@ -1,5 +1,7 @@
 -- What a row changes in the rows of its frame, and what a row of a plan keeps. This project's own.
 use Rattle.std.specs.Prelude.{◌≡◌, ◌≢◌, ◌<◌, ℕ, true, List, [], ◌∷◌, length, if◌then◌else◌}
+use Rattle.rcp_base.specs.Answers.{natural_of}
+use Rattle.rcp_base.specs.declared.TheConstants.{MAX_FRAMES}
 use Rattle.rcp_model.specs.declared.plan.PlanParts.{PlanParts}
 use Rattle.rcp_model.specs.Plan.{IsPlan}
 use Rattle.rcp_model.specs.FrameRows.{FrameRows, AreRowsOf}
@@ -7,7 +9,7 @@ use Rattle.rcp_model.specs.RowWrites.{with_sensor, with_down, with_slot, with_sk
 use Rattle.fault_journal.specs.declared.row.Kind.{Kind}
 use Rattle.fault_journal.specs.declared.row.Kind.TheVariants as kind
 use Rattle.fault_journal.specs.declared.row.Row.{Row}
-use Rattle.fault_journal.specs.Limits.{is_on_a_message, value_is_permitted, natural_of}
+use Rattle.fault_journal.specs.Limits.{is_on_a_message, value_is_permitted}
 
 -- the rows of a frame with one row of this kind more
 abbrev pub put_by : Kind → FrameRows → Row → FrameRows
@@ -28,7 +30,7 @@ put_by kind.End rows row = rows
 unfoldable pub put_row : FrameRows → Row → FrameRows
 put_row rows row = put_by row.kind rows row
 
--- the rows of a frame with rows more, one behind the other
+-- the rows of a frame with rows more, one after the other
 abbrev pub put_all : FrameRows → List Row → FrameRows
 put_all rows [] = rows
 put_all rows (row ∷ more) = put_all (put_row rows row) more
@@ -47,7 +49,7 @@ item_count plan _ = 1
 
 -- each number of a row is one that the plan has or permits
 pub record IsRowOf (plan : PlanParts) (row : Row) : Type 0 where
-  pub frame : row.frame < 1_000_000
+  pub frame : row.frame < MAX_FRAMES
   pub replica : row.replica < plan.replicas
   pub receiver : row.receiver < receiver_count plan row.kind
   pub item : row.item < item_count plan row.kind

@@ -1,6 +1,8 @@
 -- The rows of each frame of a journal. This project's own.
-use Rattle.std.specs.Prelude.{ℕ, ◌*◌, ◌/◌, ◌%◌, ◌==◌, nat_le, Bool, ◌&&◌, ℤ, pos, List, length, find, Option, option_map, unwrap_or, is_some, Ok, slice_index_or}
+use Rattle.std.specs.Prelude.{ℕ, ◌*◌, ◌/◌, ◌%◌, ◌==◌, nat_le, Bool, ◌&&◌, ℤ, pos, List, length, find, Option, option_map, unwrap_or, is_some, Ok, slice_index_or, Result}
 use Rattle.rcp_base.specs.Tables.{table}
+use Rattle.rcp_base.specs.Answers.{◌>>=◌, natural_of}
+use Rattle.fault_journal.specs.declared.fault.JournalFault.{JournalFault}
 use Rattle.rcp_model.specs.declared.plan.PlanParts.{PlanParts}
 use Rattle.rcp_model.specs.Uniprocessor.{initial_values}
 use Rattle.rcp_model.specs.FrameRows.{FrameRows}
@@ -9,10 +11,8 @@ use Rattle.fault_journal.specs.declared.row.Kind.{Kind}
 use Rattle.fault_journal.specs.declared.row.Kind.TheVariants as kind
 use Rattle.fault_journal.specs.declared.row.Row.{Row}
 use Rattle.fault_journal.specs.Journal.{JournalRows, same_kind, journal_rows}
-use Rattle.fault_journal.specs.Limits.{natural_of}
-use Rattle.fault_journal.specs.Verdict.{Verdict, ◌>>=◌}
 
--- a table of rows and columns, row behind row
+-- a table of rows and columns, row after row
 abbrev pub grid : {X : Type 0} → ℕ → ℕ → (ℕ → ℕ → X) → List X
 grid rows columns entry = table (rows * columns) (λ place. entry (place / columns) (place % columns))
 
@@ -63,7 +63,7 @@ unfoldable pub history_of : PlanParts → JournalRows → History
 history_of plan journal = table journal.frames (frame_of plan journal.rows)
 
 -- the verdict on the bytes of a journal: the rows of all frames, or the first test that it fails
-unfoldable pub journal_verdict : PlanParts → List ℕ → Verdict History
-journal_verdict plan bytes = do
+unfoldable pub journal_result : PlanParts → List ℕ → Result History JournalFault
+journal_result plan bytes = do
   journal ← journal_rows plan bytes
   Ok (history_of plan journal)

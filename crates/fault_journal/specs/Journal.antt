@@ -1,9 +1,12 @@
 -- The verdict on the bytes of a journal: its rows and its number of frames, or the first test that it fails.
 -- This project's own.
-use Rattle.std.specs.Prelude.{ℕ, ◌+◌, ◌==◌, nat_le, Bool, true, false, not, ◌&&◌, pos, int_le, int_lt, List, [], ◌∷◌, length, codes, Option, Some, None, Ok, Err, if◌then◌else◌}
+use Rattle.std.specs.Prelude.{ℕ, ◌+◌, ◌==◌, nat_le, Bool, true, false, not, ◌&&◌, pos, int_le, int_lt, List, [], ◌∷◌, length, codes, Option, Some, None, Ok, Err, if◌then◌else◌, Result}
 use Rattle.std.specs.List.{list_any}
 use Rattle.std.specs.Str.{bytes_eq}
 use Rattle.csv.specs.Reading.{default_config, records, strip_bom}
+use Rattle.rcp_base.specs.Answers.{◌>>=◌, found_or, where_passes}
+use Rattle.rcp_base.specs.declared.TheConstants.{MAX_JOURNAL}
+use Rattle.fault_journal.specs.declared.fault.JournalFault.{JournalFault}
 use Rattle.rcp_model.specs.declared.plan.PlanParts.{PlanParts}
 use Rattle.fault_journal.specs.declared.fault.JournalFault.TheVariants as fault
 use Rattle.fault_journal.specs.declared.row.Kind.{Kind}
@@ -12,7 +15,6 @@ use Rattle.fault_journal.specs.declared.row.Row.{Row}
 use Rattle.fault_journal.specs.declared.row.WrittenRow.{WrittenRow}
 use Rattle.fault_journal.specs.Columns.{kind_of, written_row}
 use Rattle.fault_journal.specs.Limits.{is_within_limits, packed}
-use Rattle.fault_journal.specs.Verdict.{Verdict, ◌>>=◌, found_or, where_passes}
 
 -- a record, by its fields
 abbrev pub Fields : Type 0
@@ -22,7 +24,7 @@ Fields = List (List ℕ)
 abbrev pub records_of : List ℕ → List Fields
 records_of bytes = records default_config (strip_bom bytes)
 
--- a record of six fields: the frame, the kind, and what stands behind them
+-- a record of six fields: the frame, the kind, and what stands after them
 pub record SixFields : Type 0 where
   pub frame : List ℕ
   pub kind : List ℕ
@@ -72,8 +74,8 @@ repeats row other =
     (other.frame == row.frame) && same_kind other.kind row.kind
     && (other.replica == row.replica) && (other.receiver == row.receiver) && (other.item == row.item)
 
--- the row of this number, behind the rows before it, of which the last comes first
-unfoldable pub row_of : PlanParts → ℕ → List Row → Fields → Verdict Row
+-- the row of this number, after the rows before it, of which the last comes first
+unfoldable pub row_of : PlanParts → ℕ → List Row → Fields → Result Row JournalFault
 row_of plan number before fields = do
   six ← found_or (fault.Width number) (six_fields fields)
   kind ← found_or (fault.Kind number) (kind_of six.kind)
@@ -87,23 +89,23 @@ pub record JournalRows : Type 0 where
   pub rows : List Row
   pub frames : ℕ
 
--- what an end row and the records behind it give: there must be none
-abbrev pub ended : ℕ → List Row → ℕ → List Fields → Verdict JournalRows
-ended number before frames [] = Ok (record { rows = before; frames = frames })
-ended number before frames (fields ∷ rest) = Err (fault.End (number + 1))
+-- what an end row and the records after it give: there must be none
+abbrev pub rows_at_end : ℕ → List Row → ℕ → List Fields → Result JournalRows JournalFault
+rows_at_end number before frames [] = Ok (record { rows = before; frames = frames })
+rows_at_end number before frames (fields ∷ rest) = Err (fault.End (number + 1))
 
--- what the records from this number on give, behind the rows before them
-abbrev pub rows_from : PlanParts → ℕ → List Row → List Fields → Verdict JournalRows
+-- what the records from this number on give, after the rows before them
+abbrev pub rows_from : PlanParts → ℕ → List Row → List Fields → Result JournalRows JournalFault
 rows_from plan number before [] = Err (fault.End number)
 rows_from plan number before (fields ∷ rest) = do
   row ← row_of plan number before fields
-  if is_end row.kind then ended number before row.frame rest else rows_from plan (number + 1) (row ∷ before) rest
+  if is_end row.kind then rows_at_end number before row.frame rest else rows_from plan (number + 1) (row ∷ before) rest
 
--- what the records give: the header, and the rows behind it
-abbrev pub rows_in : PlanParts → List Fields → Verdict JournalRows
-rows_in plan [] = Err fault.Header
-rows_in plan (header ∷ rest) = if is_header header then rows_from plan 1 [] rest else Err fault.Header
+-- what the records give: the header, and the rows after it
+abbrev pub rows_of_records : PlanParts → List Fields → Result JournalRows JournalFault
+rows_of_records plan [] = Err fault.Header
+rows_of_records plan (header ∷ rest) = if is_header header then rows_from plan 1 [] rest else Err fault.Header
 
 -- what the bytes give
-unfoldable pub journal_rows : PlanParts → List ℕ → Verdict JournalRows
-journal_rows plan bytes = if nat_le (length bytes) 67_108_864 then rows_in plan (records_of bytes) else Err fault.TooLong
+unfoldable pub journal_rows : PlanParts → List ℕ → Result JournalRows JournalFault
+journal_rows plan bytes = if nat_le (length bytes) MAX_JOURNAL then rows_of_records plan (records_of bytes) else Err fault.TooLong

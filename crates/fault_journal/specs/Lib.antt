@@ -1,10 +1,9 @@
-pub mod Verdict
+pub mod Fault
 pub mod Number
 pub mod Columns
 pub mod Limits
 pub mod Journal
 pub mod History
-pub mod Answers
 pub mod Seen
 pub mod Records
 pub mod Rows

@@ -1,6 +1,8 @@
 -- The limits of what a row's numbers may be. This project's own.
 use Rattle.std.specs.Prelude.{ℕ, Bool, true, false, not, ◌&&◌, ℤ, pos, negsuc, neg_ℤ, int_le, int_lt}
 use Rattle.std.specs.Ordering.{int_eq}
+use Rattle.rcp_base.specs.Answers.{natural_of}
+use Rattle.rcp_base.specs.declared.TheConstants.{MAX_FRAMES}
 use Rattle.rcp_model.specs.declared.plan.PlanParts.{PlanParts}
 use Rattle.rcp_model.specs.Slot.{slot_count}
 use Rattle.rcp_model.specs.TimingRules.{delay_limit_of}
@@ -23,8 +25,8 @@ is_within limit x = int_le (neg_ℤ limit) x && int_le x limit
 
 -- the frame of an end row is the number of frames, and that of another row is one of them
 abbrev pub frame_is_there : Kind → ℤ → Bool
-frame_is_there kind.End frame = int_le (pos 1) frame && int_le frame (pos 1_000_000)
-frame_is_there _ frame = is_below 1_000_000 frame
+frame_is_there kind.End frame = int_le (pos 1) frame && int_le frame (pos MAX_FRAMES)
+frame_is_there _ frame = is_below MAX_FRAMES frame
 
 -- a row on a message has two replicas
 abbrev pub is_on_a_message : Kind → Bool
@@ -50,11 +52,6 @@ is_within_limits plan row =
     && is_below plan.replicas row.replica && is_below plan.replicas row.receiver
     && not (is_on_a_message row.kind && int_eq row.replica row.receiver)
     && value_is_permitted plan row.kind row.value
-
--- a number that is not below 0
-abbrev pub natural_of : ℤ → ℕ
-natural_of (pos n) = n
-natural_of (negsuc n) = 0
 
 -- the row with its numbers in the types that their limits allow
 abbrev pub packed : WrittenRow → Row

@@ -8,7 +8,7 @@ use Rattle.std.specs.Str.Parse.{digits_value, starts_with_minus}
 abbrev pub digits_in : List ℕ → List ℕ
 digits_in text = if starts_with_minus text then drop 1 text else text
 
--- one digit or more, behind an optional minus
+-- one digit or more, after an optional minus
 abbrev pub is_number : List ℕ → Bool
 is_number text = nat_le 1 (length (digits_in text)) && list_all is_ascii_digit (digits_in text)
 
@@ -22,5 +22,5 @@ abbrev pub fits_in_64_bits : ℤ → Bool
 fits_in_64_bits x = int_le (neg_ℤ (pos (2 ^ 63))) x && int_le x (pos (2 ^ 63) -ℤ pos 1)
 
 -- the number that a text writes, if it writes one and 64 bits hold it
-unfoldable pub number_of : List ℕ → Option ℤ
-number_of text = if is_number text && fits_in_64_bits (worth text) then Some (worth text) else None
+unfoldable pub integer_of : List ℕ → Option ℤ
+integer_of text = if is_number text && fits_in_64_bits (worth text) then Some (worth text) else None

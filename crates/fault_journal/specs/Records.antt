@@ -9,7 +9,7 @@ use Rattle.csv.specs.declared.reader.Trim.TheVariants as trim
 use Rattle.fault_journal.specs.Journal.{Fields}
 
 -- what a reader of records has: the record at hand, and those that are left
-pub record Reading : Type 0 where
+pub record RecordsView : Type 0 where
   pub at_hand : Row
   pub left : List Fields
 
@@ -22,8 +22,8 @@ records_left state (Some bytes) = records_from default_config (length bytes + 1)
 abbrev pub bytes_left : Reader (Bor (List ℕ)) → Option (List ℕ)
 bytes_left reader = source_of (λ bytes. Some bytes.now) reader
 
-abbrev pub reading_of : Reader (Bor (List ℕ)) → Row → Reading
-reading_of reader row = record { at_hand = row; left = records_left reader.state (bytes_left reader) }
+abbrev pub records_view : Reader (Bor (List ℕ)) → Row → RecordsView
+records_view reader row = record { at_hand = row; left = records_left reader.state (bytes_left reader) }
 
 -- the reader is set up for the records of a journal, and can go on
 pub record CanRead (reader : Reader (Bor (List ℕ))) : Type 0 where
@@ -38,6 +38,6 @@ abbrev pub CanReadOn : Reader (Bor (List ℕ)) → Type 0
 CanReadOn reader = has_failed reader ≡ false → CanRead reader
 
 -- a read took the first of these records, or found that there is none
-abbrev pub Takes : List Fields → Bool → Reading → Type 0
+abbrev pub Takes : List Fields → Bool → RecordsView → Type 0
 Takes [] found new = found ≡ false
 Takes (fields ∷ rest) found new = (found ≡ true) × (fields_of new.at_hand ≡ fields) × (new.left ≡ rest)

@@ -1,12 +1,12 @@
 -- The steps of reading all rows: the header, the rows and the end. This project's own.
-use Rattle.std.specs.Prelude.{ℕ, ◌==◌, ◌&&◌, Bool, false, codes, length, List, [], ◌∷◌, Ok, Err, reverse, if◌then◌else◌}
+use Rattle.std.specs.Prelude.{ℕ, ◌==◌, ◌&&◌, Bool, false, codes, length, List, [], ◌∷◌, Ok, Err, reverse, if◌then◌else◌, Result}
 use Rattle.std.specs.Option.{option_map_or}
 use Rattle.std.specs.Str.{bytes_eq}
 use Rattle.csv.specs.Records.{field_at}
+use Rattle.fault_journal.specs.declared.fault.JournalFault.{JournalFault}
 use Rattle.fault_journal.specs.declared.fault.JournalFault.TheVariants as fault
 use Rattle.fault_journal.specs.declared.rows.Rows.{Rows}
 use Rattle.fault_journal.specs.Journal.{Fields, JournalRows, is_header}
-use Rattle.fault_journal.specs.Verdict.{Verdict}
 
 -- the field at a place is this text
 abbrev pub has_field : Fields → ℕ → List ℕ → Bool
@@ -20,10 +20,10 @@ has_header fields =
     && has_field fields 2 (codes "a") && has_field fields 3 (codes "b")
     && has_field fields 4 (codes "c") && has_field fields 5 (codes "d")
 
--- the records behind the header
-abbrev pub behind_header : List Fields → Verdict (List Fields)
-behind_header [] = Err fault.Header
-behind_header (header ∷ rest) = if is_header header then Ok rest else Err fault.Header
+-- the records after the header
+abbrev pub after_header : List Fields → Result (List Fields) JournalFault
+after_header [] = Err fault.Header
+after_header (header ∷ rest) = if is_header header then Ok rest else Err fault.Header
 
 -- what was read, with the last row first
 abbrev pub journal_of : Rows → JournalRows

@@ -13,17 +13,17 @@ use Rattle.fault_journal.specs.History.{frame_of, history_of}
 use Rattle.fault_journal.specs.Filling.{IsRowOf}
 
 -- the first so many rows are those of the frames that are done
-pub record IsBehind (done : ℕ) (rows : List Row) (place : ℕ) : Type 0 where
+pub record IsPlaceAfter (done : ℕ) (rows : List Row) (place : ℕ) : Type 0 where
   pub within : place ≤ length rows
   pub passed : All (λ row. row.frame < done) (take place rows)
   pub ahead : All (λ row. done ≤ row.frame) (drop place rows)
 
--- rows of a plan whose frames never fall, of which those of the frames that are done are behind
+-- rows of a plan whose frames never fall, of which those of the frames that are done are after
 pub record IsOver (plan : PlanParts) (journal : Journal) : Type 0 where
   pub is_plan : IsPlan plan
   pub rows : All (IsRowOf plan) journal.rows.items
   pub order : AllPairs (λ a b. a.frame ≤ b.frame) journal.rows.items
-  pub place : IsBehind journal.done journal.rows.items journal.place
+  pub place : IsPlaceAfter journal.done journal.rows.items journal.place
 
 -- the rows and the number of frames, as the definitions have them: the last row first
 abbrev pub told_by : Journal → JournalRows

@@ -2,19 +2,19 @@
 //! This project's own.
 ghost use Rattle.std.specs.Prelude.{◌≡◌, ◌<◌, ◌≤◌, length, map, option_map, position, IfOk, IfSome};
 ghost use Rattle.std.specs.Str.{bytes_eq};
+ghost use Rattle.rcp_base.specs.Answers.{found_or};
 ghost use Rattle.rcp_model.specs.Plan.{IsPlan, variable_names, actuator_names};
 ghost use Rattle.fault_journal.specs.Columns as spec;
-ghost use Rattle.fault_journal.specs.Number.{number_of};
-ghost use Rattle.fault_journal.specs.Verdict.{found_or};
+ghost use Rattle.fault_journal.specs.Number.{integer_of};
 ghost use Rattle.fault_journal.specs.declared.fault.JournalFault.TheVariants as fault;
 
 use crate::fault::JournalFault;
 use crate::kind::columns_of;
-use crate::number::number_of;
+use crate::number::integer_of;
 use crate::row::{Column, Kind, WrittenRow};
 use rcp_model::{ActuatorRow, PlanParts, Variable};
 
-/// The row of this number, by its first column, its kind and the texts of the columns behind it.
+/// The row of this number, by its first column, its kind and the texts of the columns after it.
 #[tactic(auto, unfolding(crate::specs::Columns::written_row))]
 pub fn written_row(
     plan: &PlanParts,
@@ -24,7 +24,8 @@ pub fn written_row(
     texts: [&[u8]; 4],
 ) -> Result<WrittenRow, JournalFault>
     requires { IsPlan plan.now }
-    ensures row { result ≡ spec.written_row plan.now number frame.now kind (map (λ text. text.now) texts.entry) }
+    ensures row { result
+        ≡ spec.written_row plan.now number frame.now kind (map (λ text. text.now) texts.entry) }
     ensures item { IfOk result (λ row. row.item < 64) }
 {
     let [a, b, c, d] = texts;
@@ -41,10 +42,10 @@ pub fn written_row(
 
 // The row of a frame before its columns are read.
 fn bare_row(frame: &[u8], kind: Kind) -> Option<WrittenRow>
-    ensures row { result ≡ option_map (λ frame. spec.bare_row frame kind) (number_of frame.now) }
+    ensures row { result ≡ option_map (λ frame. spec.bare_row frame kind) (integer_of frame.now) }
     ensures item { IfSome result (λ row. row.item ≡ 0) }
 {
-    let frame = number_of(frame)?;
+    let frame = integer_of(frame)?;
     Some(WrittenRow {
         frame,
         kind,
@@ -66,7 +67,8 @@ fn row_with(
 ) -> Result<WrittenRow, JournalFault>
     requires plan { IsPlan plan.now }
     requires item { row.item < 64 }
-    ensures row { result ≡ found_or (fault.Column number at) (spec.with_column plan.now row column text.now) }
+    ensures row { result
+        ≡ found_or (fault.Column number at) (spec.with_column plan.now row column text.now) }
     ensures item { IfOk result (λ row. row.item < 64) }
 {
     with_column(plan, row, column, text).ok_or(JournalFault::Column {
@@ -84,11 +86,11 @@ fn with_column(plan: &PlanParts, row: WrittenRow, column: Column, text: &[u8]) -
 {
     match column {
         Column::Replica => Some(WrittenRow {
-            replica: number_of(text)?,
+            replica: integer_of(text)?,
             ..row
         }),
         Column::Receiver => Some(WrittenRow {
-            receiver: number_of(text)?,
+            receiver: integer_of(text)?,
             ..row
         }),
         Column::SensorName => Some(WrittenRow {
@@ -104,7 +106,7 @@ fn with_column(plan: &PlanParts, row: WrittenRow, column: Column, text: &[u8]) -
             ..row
         }),
         Column::Value => Some(WrittenRow {
-            value: number_of(text)?,
+            value: integer_of(text)?,
             ..row
         }),
         Column::Nothing => { if text.is_empty() { Some(row) } else { None } }
@@ -115,7 +117,7 @@ fn with_column(plan: &PlanParts, row: WrittenRow, column: Column, text: &[u8]) -
 #[tactic(auto, using(crate::proofs::ColumnLemmas::variable_places))]
 fn variable_item(variables: &[Variable], text: &[u8]) -> Option<u8>
     requires { length variables.now ≤ 64 }
-    ensures item { result ≡ spec.place_of (variable_names variables.now) text.now }
+    ensures item { result ≡ spec.place_in (variable_names variables.now) text.now }
     ensures within { IfSome result (λ item. item < 64) }
 {
     Some(variable_place(variables, text)? as u8)
@@ -134,7 +136,7 @@ fn variable_place(variables: &[Variable], text: &[u8]) -> Option<usize>
 #[tactic(auto, using(crate::proofs::ColumnLemmas::actuator_places))]
 fn actuator_item(actuators: &[ActuatorRow], text: &[u8]) -> Option<u8>
     requires { length actuators.now ≤ 32 }
-    ensures item { result ≡ spec.place_of (actuator_names actuators.now) text.now }
+    ensures item { result ≡ spec.place_in (actuator_names actuators.now) text.now }
     ensures within { IfSome result (λ item. item < 64) }
 {
     Some(actuator_place(actuators, text)? as u8)

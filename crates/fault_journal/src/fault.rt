@@ -4,7 +4,7 @@ use rcp_base::Memory;
 use std::alloc::AllocFailed;
 use thiserror::Error;
 
-/// The first test that a journal fails. Rows are numbered from 1, behind the header; columns are numbered from 1 to 6.
+/// The first test that a journal fails. Rows are numbered from 1, after the header; columns are numbered from 1 to 6.
 #[derive(Clone, Copy, Debug, PartialEq, Error)]
 pub enum JournalFault {
     #[error("the journal has more than 67108864 bytes")]

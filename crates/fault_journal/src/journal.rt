@@ -1,13 +1,14 @@
 //! A journal: the rows of all frames of a run, filled in one frame after the other.
 //! This project's own.
 ghost use Rattle.std.specs.Prelude.{◌≡◌, ◌≢◌, ◌<◌, ◌≤◌, Ok, All, IfOk, IfErr, length, take, slice_index_or};
+ghost use Rattle.rcp_base.specs.Answers.{IsFaultOr};
+ghost use Rattle.fault_journal.specs.Fault.{is_journal_memory};
 ghost use Rattle.rcp_model.specs.declared.plan.PlanParts.{PlanParts};
 ghost use Rattle.rcp_model.specs.History.{History};
 ghost use Rattle.rcp_model.specs.FrameRows.{AreRowsOf, no_rows};
 ghost use Rattle.fault_journal.specs.declared.row.Row.{Row};
-ghost use Rattle.fault_journal.specs.Answers.{IsFault};
 ghost use Rattle.fault_journal.specs.Filling.{IsRowOf, CanTake, put_row, put_all};
-ghost use Rattle.fault_journal.specs.History.{journal_verdict};
+ghost use Rattle.fault_journal.specs.History.{journal_result};
 ghost use Rattle.fault_journal.specs.Telling.{IsJournalOf, Tells, history_in};
 
 use crate::fault::JournalFault;
@@ -32,9 +33,10 @@ impl Journal {
     /// The journal that bytes hold, before its first frame, or the first test that they fail.
     pub fn check(alloc: Global, plan: &Plan, bytes: &[u8]) -> Result<Journal, JournalFault>
         ensures verdict { IfOk result (λ journal.
-            journal_verdict plan.now bytes.now ≡ Ok (history_in plan.now journal)) }
+            journal_result plan.now bytes.now ≡ Ok (history_in plan.now journal)) }
         ensures journal { IfOk result (IsJournalOf plan.now) }
-        ensures fault { IfErr result (λ fault. IsFault fault (journal_verdict plan.now bytes.now)) }
+        ensures fault { IfErr result (λ fault.
+            IsFaultOr (is_journal_memory fault) fault (journal_result plan.now bytes.now)) }
     {
         let read = read_rows(alloc, plan.parts(), bytes)?;
         Ok(Journal {
@@ -84,7 +86,8 @@ impl Inputs for Journal {
 // Goes on to the next frame over the sensors so far.
 #[tactic(auto, using(crate::proofs::JournalLemmas::cleared_of_plan))]
 fn clear_rows(input: &mut FrameIn)
-    ensures { (plan : PlanParts) → AreRowsOf plan input.old → input.new ≡ no_rows plan input.old.sensors }
+    ensures { (plan : PlanParts) → AreRowsOf plan input.old
+        → input.new ≡ no_rows plan input.old.sensors }
 {
     input.next_frame();
 }
@@ -93,7 +96,8 @@ fn clear_rows(input: &mut FrameIn)
 fn count_of_frame(rows: &[Row], frame: u32) -> usize
     ensures within { result ≤ length rows.now }
     ensures same { All (λ row. row.frame ≡ frame) (take result rows.now) }
-    ensures other { (d : Row) → result < length rows.now → (slice_index_or rows.now result d).frame ≢ frame }
+    ensures other { (d : Row) → result < length rows.now
+        → (slice_index_or rows.now result d).frame ≢ frame }
 {
     for (place, row) in rows.iter().enumerate() {
         if row.frame != frame {

@@ -17,6 +17,3 @@ mod seen;
 
 pub use fault::JournalFault;
 pub use journal::Journal;
-
-#[cfg(test)]
-mod tests;

@@ -51,7 +51,8 @@ fn are_replicas(count: u32, row: &WrittenRow) -> bool
 
 // A row on a message has two replicas: this one has one.
 fn is_to_its_sender(row: &WrittenRow) -> bool
-    ensures { result ≡ (spec.is_on_a_message row.now.kind && int_eq row.now.replica row.now.receiver) }
+    ensures { result
+        ≡ (spec.is_on_a_message row.now.kind && int_eq row.now.replica row.now.receiver) }
 {
     is_on_a_message(row.kind) && row.replica == row.receiver
 }

@@ -6,9 +6,9 @@ ghost use Rattle.std.specs.List.{list_all};
 ghost use Rattle.fault_journal.specs.Number as spec;
 
 /// The number that a text writes, if it writes one and 64 bits hold it.
-#[tactic(auto, unfolding(crate::specs::Number::number_of))]
-pub fn number_of(text: &[u8]) -> Option<i64>
-    ensures { result ≡ spec.number_of text.now }
+#[tactic(auto, unfolding(crate::specs::Number::integer_of))]
+pub fn integer_of(text: &[u8]) -> Option<i64>
+    ensures { result ≡ spec.integer_of text.now }
 {
     if is_number(text) {
         worth_of(text)
@@ -43,7 +43,8 @@ fn are_digits(text: &[u8]) -> bool
 // What the text of a number is worth, where 64 bits hold it.
 fn worth_of(text: &[u8]) -> Option<i64>
     requires { spec.is_number text.now ≡ true }
-    ensures { result ≡ (if spec.fits_in_64_bits (spec.worth text.now) then Some (spec.worth text.now) else None) }
+    ensures { result
+        ≡ (if spec.fits_in_64_bits (spec.worth text.now) then Some (spec.worth text.now) else None) }
 {
     match str::from_utf8(text) {
         Ok(text) => text.parse::<i64>().ok(),

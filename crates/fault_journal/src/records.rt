@@ -9,7 +9,7 @@ use rcp_base::Memory;
 use std::alloc::Global;
 use std::marker::Model;
 
-/// A record at hand, and those behind it, which are still to be read.
+/// A record at hand, and those after it, which are still to be read.
 #[derive(Drop)]
 pub struct Records<'a> {
     reader: Reader<&'a [u8]>,
@@ -17,11 +17,11 @@ pub struct Records<'a> {
 }
 
 impl<'a> Model for Records<'a> {
-    ghost use Rattle.fault_journal.specs.Records.{Reading, reading_of, CanReadOn};
+    ghost use Rattle.fault_journal.specs.Records.{RecordsView, records_view, CanReadOn};
 
-    ghost Value = { Reading };
+    ghost Value = { RecordsView };
 
-    ghost view = { λ a. reading_of a.reader a.row };
+    ghost view = { λ a. records_view a.reader a.row };
 
     ghost invariant = { λ a. CanReadOn a.reader };
 }

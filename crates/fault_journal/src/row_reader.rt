@@ -25,8 +25,10 @@ pub fn read_row(
     fields: &ByteRecord,
 ) -> Result<Row, JournalFault>
     requires { IsPlan plan.now }
-    ensures row { (before : List Row) → Knows before seen.old → result ≡ journal.row_of plan.now number before (fields_of fields.now) }
-    ensures seen { (before : List Row) → Knows before seen.old → IfOk result (λ row. Knows (row ∷ before) seen.new) }
+    ensures row { (before : List Row) → Knows before seen.old
+        → result ≡ journal.row_of plan.now number before (fields_of fields.now) }
+    ensures seen { (before : List Row) → Knows before seen.old
+        → IfOk result (λ row. Knows (row ∷ before) seen.new) }
 {
     let six = six_fields(fields).ok_or(JournalFault::Width { row: number })?;
     let kind = kind_of(six.kind).ok_or(JournalFault::Kind { row: number })?;
@@ -57,7 +59,7 @@ struct SixFields<'a> {
     d: &'a [u8],
 }
 
-#[tactic(auto, using(crate::proofs::RowLemmas::absent_is_behind))]
+#[tactic(auto, using(crate::proofs::RowLemmas::absent_is_after))]
 fn six_fields(fields: &ByteRecord) -> Option<SixFields<'_>>
     ensures { option_map (λ six. record {
       frame = six.frame.now;

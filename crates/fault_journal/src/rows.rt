@@ -2,10 +2,11 @@
 //! This project's own.
 ghost use Rattle.std.specs.Prelude.{◌≡◌, ◌+◌, ◌^◌, ◌<◌, [], length, reverse};
 ghost use Rattle.csv.specs.Records.{fields_of};
+ghost use Rattle.rcp_base.specs.Answers.{Gives};
+ghost use Rattle.fault_journal.specs.Fault.{is_journal_memory};
 ghost use Rattle.rcp_model.specs.Plan.{IsPlan};
-ghost use Rattle.fault_journal.specs.Answers.{Gives};
 ghost use Rattle.fault_journal.specs.Journal as journal;
-ghost use Rattle.fault_journal.specs.Rows.{behind_header, has_field, has_header, journal_of};
+ghost use Rattle.fault_journal.specs.Rows.{after_header, has_field, has_header, journal_of};
 
 use crate::fault::JournalFault;
 use crate::records::Records;
@@ -27,20 +28,21 @@ pub struct Rows {
 /// What the bytes of a journal give, or the first test that they fail.
 pub fn read_rows(alloc: Global, plan: &PlanParts, bytes: &[u8]) -> Result<Rows, JournalFault>
     requires { IsPlan plan.now }
-    ensures { Gives (λ read. record { rows = reverse read.rows.items; frames = read.frames }) result (journal.journal_rows plan.now bytes.now) }
+    ensures { Gives is_journal_memory journal_of result (journal.journal_rows plan.now bytes.now) }
 {
     if bytes.len() as u64 > MAX_JOURNAL {
         return Err(JournalFault::TooLong);
     }
     let mut records = Records::new(alloc, bytes);
     read_header(&mut records)?;
-    rows_behind_header(alloc, plan, &mut records)
+    rows_after_header(alloc, plan, &mut records)
 }
 
 // Goes on to the header.
 #[tactic(auto, using(crate::proofs::RowsLemmas::header_by_place))]
 fn read_header(records: &mut Records<'_>) -> Result<(), JournalFault>
-    ensures { Gives (λ _. records.new.left) result (behind_header records.old.left) }
+    ensures { Gives is_journal_memory (λ _. records.new.left) result
+        (after_header records.old.left) }
 {
     if records.advance()? && is_header(records.fields()) {
         Ok(())
@@ -70,15 +72,16 @@ fn has_field(row: &ByteRecord, place: usize, text: &[u8]) -> bool
     }
 }
 
-// The rows of the records that are left, up to the end row, behind which there must be none.
-fn rows_behind_header(
+// The rows of the records that are left, up to the end row, after which there must be none.
+fn rows_after_header(
     alloc: Global,
     plan: &PlanParts,
     records: &mut Records<'_>,
 ) -> Result<Rows, JournalFault>
     requires plan { IsPlan plan.now }
     requires few { length records.old.left + 1 < 2 ^ 32 }
-    ensures { Gives journal_of result (journal.rows_from plan.now 1 [] records.old.left) }
+    ensures { Gives is_journal_memory journal_of result
+        (journal.rows_from plan.now 1 [] records.old.left) }
 {
     let mut seen = Seen::new(alloc)?;
     let mut rows = Vec::new(alloc);
@@ -102,7 +105,8 @@ fn end_of_rows(
     frames: u32,
 ) -> Result<Rows, JournalFault>
     requires { number + length records.old.left < 2 ^ 32 }
-    ensures { Gives journal_of result (journal.ended number (reverse rows.items) frames records.old.left) }
+    ensures { Gives is_journal_memory journal_of result
+        (journal.rows_at_end number (reverse rows.items) frames records.old.left) }
 {
     if records.advance()? {
         Err(JournalFault::End { row: number + 1 })

@@ -39,7 +39,8 @@ impl Seen {
 
     /// Whether a row's frame may follow that of the last row.
     pub fn may_come(&self, row: &WrittenRow) -> bool
-        ensures { (before : List Row) → Knows before self.now → result ≡ journal.follows before row.now }
+        ensures { (before : List Row) → Knows before self.now
+            → result ≡ journal.follows before row.now }
     {
         match self.last {
             None => true,
@@ -53,24 +54,26 @@ impl Seen {
     /// Whether a row that may follow repeats one that was seen.
     pub fn has(&self, row: &Row) -> bool
         requires { HasPlace row.now }
-        ensures { (before : List Row) → Knows before self.now → FallFrom row.now.frame before → result ≡ list_any (journal.repeats row.now) before }
+        ensures { (before : List Row) → Knows before self.now → FallFrom row.now.frame before
+            → result ≡ list_any (journal.repeats row.now) before }
     {
-        self.stamps[Seen::place_of(row)] == row.frame + 1
+        self.stamps[Seen::key_place(row)] == row.frame + 1
     }
 
     /// Sees a row that may follow.
     pub fn add(&mut self, row: &Row)
         requires { HasPlace row.now }
-        ensures { (before : List Row) → Knows before self.old → FallFrom row.now.frame before → Knows (row.now ∷ before) self.new }
+        ensures { (before : List Row) → Knows before self.old → FallFrom row.now.frame before
+            → Knows (row.now ∷ before) self.new }
     {
         self.last = Some(row.frame);
-        self.stamps[Seen::place_of(row)] = row.frame + 1;
+        self.stamps[Seen::key_place(row)] = row.frame + 1;
     }
 
     // The place of a row's key.
-    fn place_of(row: &Row) -> usize
+    fn key_place(row: &Row) -> usize
         requires { HasPlace row.now }
-        ensures place { result ≡ spec.place_of row.now }
+        ensures place { result ≡ spec.key_place row.now }
         ensures within { result < 62_208 }
     {
         let kind = usize::from(kind_number(row.kind));

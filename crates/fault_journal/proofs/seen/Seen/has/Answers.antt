@@ -5,7 +5,7 @@ use Rattle.fault_journal.proofs.seen.Seen.has.Goals as goal
 
 pub returns : goal.returns
 returns c = λ before knows falls.
-    let read = get_or_default c.args.self.now.stamps.items c.place_of.result c.index.result.now 0 (omega arith) in
+    let read = get_or_default c.args.self.now.stamps.items c.key_place.result c.index.result.now 0 (omega arith) in
     ap (λ (stamp : ℕ). nat_eq stamp (c.args.row.now.frame + 1))
-    (c.index.ensures ∙ (read ∙ rw c.place_of.ensures.place (knows.stamps _ (omega arith))))
+    (c.index.ensures ∙ (read ∙ rw c.key_place.ensures.place (knows.stamps _ (omega arith))))
     ∙ repeats_by_stamp c.args.row.now before c.requires knows.places falls

@@ -2,7 +2,7 @@
 use Rattle.std.proofs.Common.{◌≡◌, ◌+◌, ◌<◌, ◌^◌, [], length, reverse}
 use Rattle.fault_journal.specs.Journal.{rows_from}
 use Rattle.fault_journal.specs.Seen.{Knows}
-use Rattle.fault_journal.proofs.rows.rows_behind_header.Given as goal
+use Rattle.fault_journal.proofs.rows.rows_after_header.Given as goal
 
 abbrev pub invariant-rows : goal.invariant-rows
 invariant-rows l = record {
