@@ -6,7 +6,7 @@ use Rattle.std.specs.Str.{bytes_eq}
 use Rattle.rcp_model.specs.declared.plan.ActuatorRow.{ActuatorRow}
 use Rattle.rcp_model.specs.declared.plan.Variable.{Variable}
 use Rattle.rcp_model.specs.Plan.{variable_names, actuator_names}
-use Rattle.fault_journal.specs.Columns.{place_in}
+use Rattle.rcp_base.specs.Answers.{place_in}
 
 prefix_len-map : {X : Type 0} {Y : Type 0} (f : X → Y) (test : Y → Bool) (xs : List X) → prefix_len test (map f xs) ≡ prefix_len (λ x. test (f x)) xs
 prefix_len-map f test [] = refl

@@ -11,7 +11,6 @@ use Rattle.std.specs.List.{list_all}
 use Rattle.std.specs.Result.{result_ok, OkIff}
 use Rattle.std.specs.Str.{IsAscii, IsUtf8}
 use Rattle.std.specs.Str.Parse.{AllDigits, IsNumeral, digits_value, starts_with_minus, without_leading_sign, ParsesSigned}
-use Rattle.fault_journal.specs.Fault.{is_journal_memory}
 use Rattle.fault_journal.specs.Number.{digits_in, is_number, worth, fits_in_64_bits}
 use mir.Syntax.{w64}
 
@@ -80,4 +79,4 @@ worth_is_parsed text result is parses =
     OkIff result (IsNumeral 10 digits × FitsSigned w64 (signed (starts_with_minus text) digits)) (signed (starts_with_minus text) digits)
     in
     given_where result _ (fits_in_64_bits (worth text)) (worth text) (λ fits. (numeral, fits_forth (worth text) fits))
-    (λ holds. fits_back (worth text) holds.1) (subst Gives is_journal_memory (without_sign text numeral.1) parses)
+    (λ holds. fits_back (worth text) holds.1) (subst Gives (without_sign text numeral.1) parses)

@@ -10,7 +10,7 @@ use Rattle.rcp_model.specs.Plan.{IsPlan}
 use Rattle.rcp_model.specs.Slot.{slot_count}
 use Rattle.rcp_model.specs.TimingRules.{delay_limit_of}
 use Rattle.rcp_model.specs.FrameRows.{AreRowsOf, slot_row, lie_row, lie_slot_row, is_dropped, skew_of, rate_of, delay_of}
-use Rattle.rcp_model.specs.FrameLimits.{HasLimits, IsUntouchedByItself, IsWithin}
+use Rattle.rcp_model.specs.FrameLimits.{AreWithinLimits, IsUntouchedByItself, IsWithin}
 use Rattle.fault_journal.specs.declared.row.Kind.{Kind}
 use Rattle.fault_journal.specs.declared.row.Kind.TheVariants as kind
 use Rattle.fault_journal.specs.declared.row.Row.{Row}
@@ -208,7 +208,7 @@ own_of plan rows frame of_plan p =
 
 -- so the frame is within the limits
 pub frame_of-is_within_limits : (plan : PlanParts) (rows : List Row) (frame : ℕ) → IsPlan plan → All (IsRowOf plan) rows
-    → HasLimits plan (frame_of plan rows frame)
+    → AreWithinLimits plan (frame_of plan rows frame)
 unfolding frame_of slot_row lie_slot_row skew_of rate_of delay_of IsPermitted SlotsAreBelow IsDelay
 frame_of-is_within_limits plan rows frame is_plan of_plan =
     let range = is_plan.timing_range in

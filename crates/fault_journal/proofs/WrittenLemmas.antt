@@ -5,7 +5,7 @@ use Rattle.std.specs.Option.{option_or}
 use Rattle.std.proofs.lemmas.List.{length-map}
 use Rattle.std.proofs.lemmas.List.Quantifiers.{position-Some}
 use Rattle.std.specs.Str.{bytes_eq}
-use Rattle.rcp_base.specs.Answers.{◌>>=◌, found_or, where_passes}
+use Rattle.rcp_base.specs.Answers.{◌>>=◌, found_or, where_passes, place_in}
 use Rattle.rcp_model.specs.declared.plan.Variable.{Variable}
 use Rattle.rcp_model.specs.declared.plan.ActuatorRow.{ActuatorRow}
 use Rattle.rcp_model.specs.declared.plan.PlanParts.{PlanParts}
@@ -18,7 +18,7 @@ use Rattle.fault_journal.specs.declared.row.Column.{Column}
 use Rattle.fault_journal.specs.declared.row.Column.TheVariants as column
 use Rattle.fault_journal.specs.declared.row.WrittenRow.{WrittenRow}
 use Rattle.fault_journal.specs.Number.{integer_of}
-use Rattle.fault_journal.specs.Columns.{columns_of, place_in, with_column, with_columns, bare_row, written_row}
+use Rattle.fault_journal.specs.Columns.{columns_of, with_column, with_columns, bare_row, written_row}
 use Rattle.fault_journal.specs.Limits.{is_on_a_message}
 use Rattle.fault_journal.specs.Filling.{item_count}
 

@@ -1,7 +1,7 @@
 -- What stands in the columns of a row. This project's own.
-use Rattle.std.specs.Prelude.{ℕ, ◌+◌, ℤ, pos, List, [], ◌∷◌, length, position, ◌==◌, codes, Option, Some, None, option_map, Ok, if◌then◌else◌, Result}
+use Rattle.std.specs.Prelude.{ℕ, ◌+◌, ℤ, pos, List, [], ◌∷◌, length, ◌==◌, codes, Option, Some, None, option_map, Ok, if◌then◌else◌, Result}
 use Rattle.std.specs.Str.{bytes_eq}
-use Rattle.rcp_base.specs.Answers.{◌>>=◌, found_or}
+use Rattle.rcp_base.specs.Answers.{◌>>=◌, found_or, place_in}
 use Rattle.fault_journal.specs.declared.fault.JournalFault.{JournalFault}
 use Rattle.rcp_model.specs.declared.plan.PlanParts.{PlanParts}
 use Rattle.rcp_model.specs.Plan.{variable_names, actuator_names}

@@ -1,5 +1,5 @@
 -- The limits of what a row's numbers may be. This project's own.
-use Rattle.std.specs.Prelude.{ℕ, Bool, true, false, not, ◌&&◌, ℤ, pos, negsuc, neg_ℤ, int_le, int_lt}
+use Rattle.std.specs.Prelude.{ℕ, Bool, true, false, not, ◌&&◌, ℤ, pos, neg_ℤ, int_le, int_lt}
 use Rattle.std.specs.Ordering.{int_eq}
 use Rattle.rcp_base.specs.Answers.{natural_of}
 use Rattle.rcp_base.specs.declared.TheConstants.{MAX_FRAMES}

@@ -2,7 +2,7 @@
 //! This project's own.
 ghost use Rattle.std.specs.Prelude.{◌≡◌, ◌<◌, ◌≤◌, length, map, option_map, position, IfOk, IfSome};
 ghost use Rattle.std.specs.Str.{bytes_eq};
-ghost use Rattle.rcp_base.specs.Answers.{found_or};
+ghost use Rattle.rcp_base.specs.Answers.{found_or, place_in};
 ghost use Rattle.rcp_model.specs.Plan.{IsPlan, variable_names, actuator_names};
 ghost use Rattle.fault_journal.specs.Columns as spec;
 ghost use Rattle.fault_journal.specs.Number.{integer_of};
@@ -117,7 +117,7 @@ fn with_column(plan: &PlanParts, row: WrittenRow, column: Column, text: &[u8]) -
 #[tactic(auto, using(crate::proofs::ColumnLemmas::variable_places))]
 fn variable_item(variables: &[Variable], text: &[u8]) -> Option<u8>
     requires { length variables.now ≤ 64 }
-    ensures item { result ≡ spec.place_in (variable_names variables.now) text.now }
+    ensures item { result ≡ place_in (variable_names variables.now) text.now }
     ensures within { IfSome result (λ item. item < 64) }
 {
     Some(variable_place(variables, text)? as u8)
@@ -136,7 +136,7 @@ fn variable_place(variables: &[Variable], text: &[u8]) -> Option<usize>
 #[tactic(auto, using(crate::proofs::ColumnLemmas::actuator_places))]
 fn actuator_item(actuators: &[ActuatorRow], text: &[u8]) -> Option<u8>
     requires { length actuators.now ≤ 32 }
-    ensures item { result ≡ spec.place_in (actuator_names actuators.now) text.now }
+    ensures item { result ≡ place_in (actuator_names actuators.now) text.now }
     ensures within { IfSome result (λ item. item < 64) }
 {
     Some(actuator_place(actuators, text)? as u8)

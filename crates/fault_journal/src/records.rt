@@ -1,10 +1,11 @@
 //! The records of a journal's bytes, one at a time.
 //! This project's own.
-ghost use Rattle.std.specs.Prelude.{◌≡◌, IfOk};
+ghost use Rattle.std.specs.Prelude.{◌≡◌, true, IfOk};
+ghost use Rattle.csv.specs.Reading.{stops_reader};
 ghost use Rattle.fault_journal.specs.Journal.{records_of};
 ghost use Rattle.fault_journal.specs.Records.{Takes};
 
-use csv::{ByteRecord, Reader, ReaderBuilder};
+use csv::{ByteRecord, ErrorKind, Reader, ReaderBuilder};
 use rcp_base::Memory;
 use std::alloc::Global;
 use std::marker::Model;
@@ -40,13 +41,13 @@ impl<'a> Records<'a> {
         }
     }
 
-    /// Goes on to the next record, and says whether there was one. Records of a slice that may have any width are never
-    /// refused, so that only memory can be wanting.
+    /// Goes on to the next record, and says whether there was one. Records of any width are never refused.
     pub fn advance(&mut self) -> Result<bool, Memory>
         ensures { IfOk result (λ found. Takes self.old.left found self.new) }
     {
-        let Ok(found) = self.reader.read_byte_record(&mut self.row) else {
-            return Err(Memory);
+        let found = match self.reader.read_byte_record(&mut self.row) {
+            Ok(found) => found,
+            Err(error) => return Err(memory_of(error.into_kind())),
         };
         Ok(found)
     }
@@ -56,5 +57,15 @@ impl<'a> Records<'a> {
         ensures { result.now ≡ self.now.at_hand }
     {
         &self.row
+    }
+}
+
+// What stops a reader of a slice. A slice has no errors of its own, so that only memory can run out.
+fn memory_of(kind: ErrorKind) -> Memory
+    requires { stops_reader kind ≡ true }
+{
+    match kind {
+        ErrorKind::OutOfMemory | ErrorKind::Io(_) => Memory,
+        _ => unreachable!(),
     }
 }

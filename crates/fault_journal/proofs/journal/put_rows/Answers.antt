@@ -1,5 +1,5 @@
 -- One row more is put, and the rest are still to be put.
-use Rattle.std.proofs.Common.{◌≡◌, ◌+◌, ◌∙◌, sym, ap, drop}
+use Rattle.std.proofs.Common.{◌+◌, ◌∙◌, sym, ap, drop}
 use Rattle.std.proofs.lemmas.List.{drop_more}
 use Rattle.rcp_model.specs.FrameRows.{FrameRows}
 use Rattle.fault_journal.specs.Filling.{put_all}

@@ -13,7 +13,7 @@ returns-in_err-read-clause-fault c =
     let p = err_from_is_err_and c.from_residual.result c.from_residual.ensures.1 in
     rw (p.1, p.2)
     (read-Err c.args.plan.now c.args.bytes.now c.in_err-read.field-0.0
-    (subst (λ (plan : PlanParts). IsFaultOr (is_journal_memory c) c.in_err-read.field-0.0 (journal_rows plan c.args.bytes.now)) c.parts.ensures.parts c.in_err-read.ensures))
+    (subst (λ (plan : PlanParts). IsFaultOr (is_journal_memory c.in_err-read.field-0.0) c.in_err-read.field-0.0 (journal_rows plan c.args.bytes.now)) c.parts.ensures.parts c.in_err-read.ensures))
 
 pub returns-clause-verdict : goal.returns-clause-verdict
 returns-clause-verdict c =
