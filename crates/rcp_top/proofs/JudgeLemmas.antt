@@ -9,7 +9,7 @@ use Rattle.recovery_analysis.specs.Verdict.{IsVerdictOfGraphs, verdict_of}
 use Rattle.task_graph.specs.Rows.{Rows, AreFeedsOf}
 use Rattle.vote_pattern.specs.Votes.{Votes, AreVotesOf}
 use Rattle.fault_journal.specs.declared.fault.JournalFault.TheVariants as journal_fault
-use Rattle.fault_journal.specs.History.{journal_verdict}
+use Rattle.fault_journal.specs.History.{journal_result}
 use Rattle.fault_journal.specs.Journal.{journal_rows, rows_in, records_of}
 use Rattle.task_file.specs.declared.fault.FileFault.TheVariants as fault
 use Rattle.rcp_base.specs.Answers.{◌>>=◌}
@@ -28,8 +28,8 @@ long_rows : (plan : PlanParts) (bytes : List ℕ) → 67108864 < length bytes �
 unfolding journal_rows
 long_rows plan bytes longer = ap (λ b. cond b (rows_in plan (records_of bytes)) (Err journal_fault.TooLong)) (lt-leb (length bytes) 67108864 longer)
 
-long_journal : (plan : PlanParts) (bytes : List ℕ) → 67108864 < length bytes → journal_verdict plan bytes ≡ Err journal_fault.TooLong
-unfolding journal_verdict
+long_journal : (plan : PlanParts) (bytes : List ℕ) → 67108864 < length bytes → journal_result plan bytes ≡ Err journal_fault.TooLong
+unfolding journal_result
 long_journal plan bytes longer = rw (long_rows plan bytes longer) refl
 
 -- a task file over the limit is refused
@@ -43,6 +43,6 @@ pub same_file : (seen bytes : List ℕ) → IsSeenUpTo 1048576 seen bytes → ta
 same_file seen bytes (inl is) = ap task_file_result is
 same_file seen bytes (inr both) = long_file seen both.0 ∙ sym (long_file bytes both.1)
 
-pub same_journal : (plan : PlanParts) (seen bytes : List ℕ) → IsSeenUpTo 67108864 seen bytes → journal_verdict plan seen ≡ journal_verdict plan bytes
-same_journal plan seen bytes (inl is) = ap (journal_verdict plan) is
+pub same_journal : (plan : PlanParts) (seen bytes : List ℕ) → IsSeenUpTo 67108864 seen bytes → journal_result plan seen ≡ journal_result plan bytes
+same_journal plan seen bytes (inl is) = ap (journal_result plan) is
 same_journal plan seen bytes (inr both) = long_journal plan seen both.0 ∙ sym (long_journal plan bytes both.1)

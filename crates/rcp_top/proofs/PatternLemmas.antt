@@ -8,7 +8,7 @@ use Rattle.rcp_model.specs.Levels.{has_cycle}
 use Rattle.rcp_model.specs.PlanGraph.{graph_of_plan}
 use Rattle.rcp_model.specs.Shown.{recovery_length, witness_walk, witness_cycle}
 use Rattle.rcp_model.specs.declared.plan.PlanParts.{PlanParts}
-use Rattle.fault_journal.specs.History.{journal_verdict}
+use Rattle.fault_journal.specs.History.{journal_result}
 use Rattle.fault_journal.specs.declared.fault.JournalFault.{JournalFault}
 use Rattle.task_file.specs.TaskFile.{task_file_result}
 use Rattle.task_file.specs.declared.fault.FileFault.{FileFault}
@@ -101,7 +101,7 @@ good_history_passes (Ok history) = tt
 good_history_passes (Err fault) = tt
 
 history_passes : (plan : PlanParts) (journal : List ℕ) → RefusesNone (history_at plan journal)
-history_passes plan journal bytes = good_history_passes (journal_verdict plan bytes)
+history_passes plan journal bytes = good_history_passes (journal_result plan bytes)
 
 -- nor does what follows a plan, in each form
 good_passes : (form : Form) (plan : PlanParts) → RefusesNone (after_plan form plan)

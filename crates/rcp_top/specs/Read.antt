@@ -9,7 +9,7 @@ use Rattle.task_file.specs.declared.fault.FileFault.{FileFault}
 use Rattle.task_file.specs.TaskFile.{task_file_result}
 use Rattle.fault_journal.specs.declared.fault.JournalFault.{JournalFault}
 use Rattle.fault_journal.specs.declared.journal.Journal.{Journal}
-use Rattle.fault_journal.specs.History.{journal_verdict}
+use Rattle.fault_journal.specs.History.{journal_result}
 use Rattle.fault_journal.specs.Telling.{IsJournalOf, history_in}
 use Rattle.rcp_top.specs.declared.judge.Judged.{Judged}
 use Rattle.rcp_top.specs.declared.stop.Refusal.{Refusal}
@@ -38,7 +38,7 @@ plan_at file = do
 abbrev pub history_at : PlanParts → List ℕ → Reading History
 history_at plan journal = do
   bytes ← file_at journal
-  Reading.gives (good_history (journal_verdict plan bytes))
+  Reading.gives (good_history (journal_result plan bytes))
 
 -- this text is due
 abbrev pub shown : List ℕ → Reading (List ℕ)

@@ -1,17 +1,12 @@
 -- Why a call stops, by the fault of a file. This project's own.
-use Rattle.std.specs.Prelude.{Bool, true, false, if◌then◌else◌}
+use Rattle.std.specs.Prelude.{if◌then◌else◌}
 use Rattle.task_file.specs.declared.fault.FileFault.{FileFault}
 use Rattle.task_file.specs.Fault.{is_file_memory}
 use Rattle.fault_journal.specs.declared.fault.JournalFault.{JournalFault}
-use Rattle.fault_journal.specs.declared.fault.JournalFault.TheVariants as journal
+use Rattle.fault_journal.specs.Fault.{is_journal_memory}
 use Rattle.rcp_top.specs.declared.stop.Refusal.TheVariants as refusal
 use Rattle.rcp_top.specs.declared.stop.Stop.{Stop}
 use Rattle.rcp_top.specs.declared.stop.Stop.TheVariants as stop
-
--- memory ran out while the journal was read
-abbrev pub is_journal_memory : JournalFault → Bool
-is_journal_memory journal.Memory = true
-is_journal_memory _ = false
 
 -- the stop at a task file's fault: it is refused, unless memory ran out
 abbrev pub file_stop : FileFault → Stop

@@ -3,7 +3,7 @@
 ghost use Rattle.std.specs.Prelude.{Ok};
 ghost use Rattle.rcp_base.specs.States.{IsLater};
 ghost use Rattle.task_file.specs.TaskFile.{task_file_result};
-ghost use Rattle.fault_journal.specs.History.{journal_verdict};
+ghost use Rattle.fault_journal.specs.History.{journal_result};
 ghost use Rattle.rcp_top.specs.Finds.{Finds, IsSeenUpTo, TellsEnd};
 ghost use Rattle.rcp_top.specs.Reading.{End, file_at};
 ghost use Rattle.rcp_top.specs.Read as spec;
@@ -84,7 +84,7 @@ fn judged<'a>(alloc: Global, plan: Plan) -> Result<Judged, Stop<'a>>
 
 fn journal_in<'a>(alloc: Global, plan: &Plan, bytes: &[u8]) -> Result<Journal, Stop<'a>>
     ensures { TellsEnd (IsJournal plan.now) result
-        (End.gave (spec.good_history (journal_verdict plan.now bytes.now))) }
+        (End.gave (spec.good_history (journal_result plan.now bytes.now))) }
 {
     Ok(Journal::check(alloc, plan, bytes)?)
 }

@@ -2,7 +2,7 @@
 //! This project's own.
 ghost use Rattle.std.specs.Prelude.{◌≡◌};
 ghost use Rattle.task_file.specs.Fault.{is_file_memory};
-ghost use Rattle.rcp_top.specs.Stops.{is_journal_memory};
+ghost use Rattle.fault_journal.specs.Fault.{is_journal_memory};
 
 use fault_journal::JournalFault;
 use rcp_base::{List, Memory};
