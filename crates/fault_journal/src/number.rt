@@ -44,7 +44,8 @@ fn are_digits(text: &[u8]) -> bool
 fn worth_of(text: &[u8]) -> Option<i64>
     requires { spec.is_number text.now ≡ true }
     ensures { result
-        ≡ (if spec.fits_in_64_bits (spec.worth text.now) then Some (spec.worth text.now) else None) }
+        ≡ (if spec.fits_in_64_bits (spec.worth text.now)
+            then Some (spec.worth text.now) else None) }
 {
     match str::from_utf8(text) {
         Ok(text) => text.parse::<i64>().ok(),

@@ -14,7 +14,7 @@ use Rattle.task_code.proofs.SizeLaws.{expr_code_computes}
 use Rattle.frame_table.specs.declared.table.Table.{Table}
 use Rattle.frame_table.specs.Tasks.{cells_after_number, cells_after_numbers}
 use Rattle.frame_table.specs.Plan.{IsOf, targets_of, programs_of, slots_of, commands_of}
-use Rattle.frame_table.specs.Values.{value_in}
+use Rattle.frame_table.specs.Values.{command_value}
 use Rattle.frame_table.proofs.TaskLemmas.{code_leaves}
 
 -- what a function makes of an item, or of what stands where there is none
@@ -54,7 +54,7 @@ slot_is plan table slot numbers sensors cells after is_of numbers_are ran =
 
 -- the code of an actuator gives its value, and where there is none, 0
 values_of : (actuators : List ActuatorRow) (actuator : ℕ) (sensors cells : List ℤ)
-    → value_in (commands_of actuators) actuator sensors cells ≡ actuator_value (get_or actuators actuator no_actuator) sensors cells
+    → command_value (commands_of actuators) actuator sensors cells ≡ actuator_value (get_or actuators actuator no_actuator) sensors cells
 values_of [] actuator sensors cells = search (rules, the_lemmas)
 values_of (row ∷ rows) zero sensors cells = ap (λ values. get_or values 0 (pos 0)) ((expr_code_computes row.value).values sensors cells)
 values_of (row ∷ rows) (suc actuator) sensors cells = values_of rows actuator sensors cells
@@ -62,9 +62,9 @@ values_of (row ∷ rows) (suc actuator) sensors cells = values_of rows actuator 
 -- an actuator of a table of the plan
 pub value_is :
     (plan : PlanParts) (table : Table) (actuator : ℕ) (sensors cells : List ℤ) (value : ℤ) → IsOf plan table
-    → value ≡ value_in table.commands actuator sensors cells
+    → value ≡ command_value table.commands actuator sensors cells
     → value ≡ actuator_value (actuator_at plan actuator) sensors cells
 value_is plan table actuator sensors cells value is_of gave =
     gave
-    ∙ ap (λ codes. value_in codes actuator sensors cells) is_of.commands
+    ∙ ap (λ codes. command_value codes actuator sensors cells) is_of.commands
     ∙ values_of plan.actuators actuator sensors cells

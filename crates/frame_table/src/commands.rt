@@ -2,7 +2,7 @@
 //! This project's own.
 ghost use Rattle.std.specs.Prelude.{◌≡◌, IfOk};
 ghost use Rattle.frame_table.specs.Plan.{commands_of};
-ghost use Rattle.frame_table.specs.Values.{value_in};
+ghost use Rattle.frame_table.specs.Values.{command_value};
 
 use crate::build::command_codes;
 use rcp_base::Memory;
@@ -44,7 +44,7 @@ impl Commands {
 
     /// The value of the actuator with this number, and 0 where there is none.
     pub fn value(&mut self, actuator: usize, sensors: &[i64], cells: &[i64]) -> i64
-        ensures value { result ≡ value_in self.old actuator sensors.now cells.now }
+        ensures value { result ≡ command_value self.old actuator sensors.now cells.now }
         ensures commands { self.new ≡ self.old }
     {
         let mut out = [0];

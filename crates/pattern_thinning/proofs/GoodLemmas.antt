@@ -9,7 +9,7 @@ use Rattle.rcp_model.specs.Thinning.{IsGood, is_good, has_walk}
 use Rattle.rcp_model.proofs.LevelLaws.{node_of-number, number-lt, level_zero, level_unvoted, level_step, level_back, level_down, level_of_ends, ends_of_level}
 use Rattle.rcp_model.proofs.ShownLaws.{cycle_found, none_found}
 use Rattle.rcp_model.proofs.AlikeLaws.{IsAlike, alike_turned, steps_alike, unvoted_alike, HasNoMoreVotes, HasSameVotes}
-use Rattle.recovery_analysis.specs.Verdict.{IsWithin}
+use Rattle.recovery_analysis.specs.Verdict.{TellsWithin}
 use Rattle.pattern_thinning.specs.inner.Reach.{step_limit}
 use Rattle.pattern_thinning.specs.Thinned.{voting}
 
@@ -62,7 +62,7 @@ pub good_without_limit : (limit : Option ℕ) (g : Graph) → limit ≡ None →
 good_without_limit limit g e none = ap (λ (l : Option ℕ). is_good l g) e ∙ not_from_false (has_cycle g) (none_found g none)
 
 good_within : (limit : Option ℕ) (g : Graph) (k : ℕ) (answer : Bool) → limit ≡ Some k → ((nodes : List Node) → IsUnvotedCycle g nodes → ⊥)
-    → IsWithin k g answer → answer ≡ is_good limit g
+    → TellsWithin k g answer → answer ≡ is_good limit g
 good_within limit g k answer e none decides =
     both_or_none answer (is_good (Some k) g)
     (λ t. (good_test (Some k) g).1 (record { no_cycle = none; no_long_walk = decides.0 t }))
@@ -70,7 +70,7 @@ good_within limit g k answer e none decides =
     ∙ ap (λ (l : Option ℕ). is_good l g) (sym e)
 
 pub good_if_within : {E : Type 0} (limit : Option ℕ) (g : Graph) (k : ℕ) (result : Result Bool E) → limit ≡ Some k → ((nodes : List Node) → IsUnvotedCycle g nodes → ⊥)
-    → IfOk result (IsWithin k g) → IfOk result (λ good. good ≡ is_good limit g)
+    → IfOk result (TellsWithin k g) → IfOk result (λ good. good ≡ is_good limit g)
 good_if_within limit g k (Ok answer) e none decides = good_within limit g k answer e none decides
 good_if_within limit g k (Err fault) e none decides = tt
 

@@ -10,7 +10,7 @@ use Rattle.task_graph.specs.Rows.{Rows, AreFeedsOf}
 use Rattle.vote_pattern.specs.Votes.{Votes, AreVotesOf}
 use Rattle.fault_journal.specs.declared.fault.JournalFault.TheVariants as journal_fault
 use Rattle.fault_journal.specs.History.{journal_result}
-use Rattle.fault_journal.specs.Journal.{journal_rows, rows_in, records_of}
+use Rattle.fault_journal.specs.Journal.{journal_rows, rows_of_records, records_of}
 use Rattle.task_file.specs.declared.fault.FileFault.TheVariants as fault
 use Rattle.rcp_base.specs.Answers.{◌>>=◌}
 use Rattle.task_file.specs.Shape.{sections_of}
@@ -26,7 +26,7 @@ judged_graph g rows votes (Ok verdict) is feeds pattern = is g feeds pattern
 -- a journal over the limit is refused
 long_rows : (plan : PlanParts) (bytes : List ℕ) → 67108864 < length bytes → journal_rows plan bytes ≡ Err journal_fault.TooLong
 unfolding journal_rows
-long_rows plan bytes longer = ap (λ b. cond b (rows_in plan (records_of bytes)) (Err journal_fault.TooLong)) (lt-leb (length bytes) 67108864 longer)
+long_rows plan bytes longer = ap (λ b. cond b (rows_of_records plan (records_of bytes)) (Err journal_fault.TooLong)) (lt-leb (length bytes) 67108864 longer)
 
 long_journal : (plan : PlanParts) (bytes : List ℕ) → 67108864 < length bytes → journal_result plan bytes ≡ Err journal_fault.TooLong
 unfolding journal_result

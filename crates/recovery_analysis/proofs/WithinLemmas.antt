@@ -13,7 +13,7 @@ use Rattle.rcp_model.proofs.AlikeLaws.{same_turned, ends_same}
 use Rattle.task_graph.specs.Rows.{Rows, AreFeedsOf}
 use Rattle.vote_pattern.specs.Votes.{Votes, AreVotesOf}
 use Rattle.recovery_analysis.specs.Graphs.{graph_of}
-use Rattle.recovery_analysis.specs.Verdict.{IsWithin}
+use Rattle.recovery_analysis.specs.Verdict.{TellsWithin}
 use Rattle.recovery_analysis.specs.inner.Levels.{AnswersLeast}
 use Rattle.recovery_analysis.proofs.VerdictLemmas.{same_graph}
 
@@ -67,19 +67,19 @@ there g limit steps some enough found none = elim (cases_lt (node_count g) limit
 ]
 
 pub last_level_tells : (g : Graph) (limit steps : ℕ) (found : Option Node) → 1 ≤ limit → AreEnough g limit steps → AnswersLeast g steps found
-    → IsWithin limit g (is_none found)
+    → TellsWithin limit g (is_none found)
 last_level_tells g limit steps None some enough none =
     (λ _. no_walk_after g steps limit (below g limit steps some enough) none, λ _. refl)
 last_level_tells g limit steps (Some n) some enough found =
     (λ h. absurd (false≢true h), λ none. absurd (there g limit steps some enough found.some none))
 
-pub early_level_tells : (g : Graph) (limit k : ℕ) (found : Option Node) → k < limit → AnswersLeast g k found → is_none found ≡ true → IsWithin limit g true
+pub early_level_tells : (g : Graph) (limit k : ℕ) (found : Option Node) → k < limit → AnswersLeast g k found → is_none found ≡ true → TellsWithin limit g true
 early_level_tells g limit k None less none h = (λ _. no_walk_after g k limit less none, λ _. refl)
 early_level_tells g limit k (Some n) less found h = absurd (false≢true h)
 
 -- it tells so of each graph that has these rows and votes
-pub within_of_graphs : (rows : Rows) (votes : Votes) (limit : ℕ) (answer : Bool) → IsWithin limit (graph_of rows votes) answer
-    → (g : Graph) → AreFeedsOf g rows → AreVotesOf g votes → IsWithin limit g answer
+pub within_of_graphs : (rows : Rows) (votes : Votes) (limit : ℕ) (answer : Bool) → TellsWithin limit (graph_of rows votes) answer
+    → (g : Graph) → AreFeedsOf g rows → AreVotesOf g votes → TellsWithin limit g answer
 within_of_graphs rows votes limit answer is g dependence pattern =
     let same = same_graph g rows votes dependence pattern in (
       λ t n e. is.0 t n (ends_same g (graph_of rows votes) (same_turned (graph_of rows votes) g same) limit n e),

@@ -24,10 +24,10 @@ abbrev pub IsVerdictOfGraphs : Rows → Votes → Verdict → Type 0
 IsVerdictOfGraphs rows votes verdict = (g : Graph) → AreFeedsOf g rows → AreVotesOf g votes → verdict ≡ verdict_of g
 
 -- the answer tells whether no unvoted walk has so many nodes
-abbrev pub IsWithin : ℕ → Graph → Bool → Type 0
-IsWithin limit g answer = IsTrue answer ↔ HasNoWalk g limit
+abbrev pub TellsWithin : ℕ → Graph → Bool → Type 0
+TellsWithin limit g answer = IsTrue answer ↔ HasNoWalk g limit
 
 -- it tells so of each graph that has these rows and votes
-abbrev pub IsWithinOfGraphs : ℕ → Rows → Votes → Bool → Type 0
-IsWithinOfGraphs limit rows votes answer =
-    (g : Graph) → AreFeedsOf g rows → AreVotesOf g votes → IsWithin limit g answer
+abbrev pub TellsWithinOfGraphs : ℕ → Rows → Votes → Bool → Type 0
+TellsWithinOfGraphs limit rows votes answer =
+    (g : Graph) → AreFeedsOf g rows → AreVotesOf g votes → TellsWithin limit g answer

@@ -2,7 +2,7 @@
 //! After NASA TM-102716; the code is this project's own.
 ghost use Rattle.std.specs.Prelude.{◌≡◌, ◌≤◌, IfOk, IsOk};
 ghost use Rattle.recovery_analysis.specs.Graphs.{graph_of};
-ghost use Rattle.recovery_analysis.specs.Verdict.{IsVerdict, IsVerdictOfGraphs, IsWithin, IsWithinOfGraphs};
+ghost use Rattle.recovery_analysis.specs.Verdict.{IsVerdict, IsVerdictOfGraphs, TellsWithin, TellsWithinOfGraphs};
 
 use crate::cycles::cycle_of;
 use crate::levels::{Levels, first_level, least_of, next_level};
@@ -50,8 +50,8 @@ pub fn within(_alloc: Global, rows: &DepRows, pattern: &Pattern, limit: u32) -> 
     requires slots { rows.now.slots ≡ pattern.now.slots }
     requires cells { rows.now.cells ≡ pattern.now.cells }
     requires limit { 1 ≤ limit }
-    ensures within { IfOk result (IsWithin limit (graph_of rows.now pattern.now)) }
-    ensures graph { IfOk result (IsWithinOfGraphs limit rows.now pattern.now) }
+    ensures within { IfOk result (TellsWithin limit (graph_of rows.now pattern.now)) }
+    ensures graph { IfOk result (TellsWithinOfGraphs limit rows.now pattern.now) }
     ensures ok { IsOk result }
 {
     let count = rows.node_count();

@@ -11,7 +11,7 @@ use Rattle.rcp_model.specs.declared.task.Task.{Task}
 use Rattle.task_code.specs.declared.instruction.Instruction.{Instruction}
 use Rattle.task_code.specs.declared.instruction.Instruction.TheVariants.{Neg, Not, Abs, Two, Clamp, If, Keep, Give}
 use Rattle.task_code.specs.Machine.{result_count, gives}
-use Rattle.task_code.specs.Compiler.{code_of, code_step, lets_code, sets_code, task_code, expr_code, node_count, count_step}
+use Rattle.task_code.specs.Compiler.{code_of, code_step, lets_code, sets_code, task_code, expr_code, expr_size, count_step}
 use Rattle.task_code.specs.Correct.{Computes, ComputesExpr}
 use Rattle.task_code.proofs.RunLemmas.{map-map, code_of-roll, results-task_code, results-expr_code}
 
@@ -25,7 +25,7 @@ record Sized (code : List Instruction) (n : ℕ) : Type 0 where
   size : length code ≡ n
 
 abbrev SizedByNodes : Expr → Type 0
-SizedByNodes e = Sized (code_of e) (node_count e)
+SizedByNodes e = Sized (code_of e) (expr_size e)
 
 one : (a : List Instruction) (i : Instruction) (n : ℕ) → gives i ≡ 0 → Sized a n → Sized (a ++ i ∷ []) (n + 1)
 one a i n none s = record {
@@ -43,38 +43,38 @@ same_size : (a : List Instruction) (n m : ℕ) → n ≡ m → Sized a n → Siz
 same_size a n m e s = subst (λ k. Sized a k) e s
 
 -- one level, over operands of the sizes of their nodes
-sized_level : (y : Expr-F ((e : Expr) × SizedByNodes e)) → Sized (code_step (map-Expr ((e : Expr) × SizedByNodes e) (List Instruction) (λ e. code_of e.0) y)) (count_step (map-Expr ((e : Expr) × SizedByNodes e) ℕ (λ e. node_count e.0) y))
+sized_level : (y : Expr-F ((e : Expr) × SizedByNodes e)) → Sized (code_step (map-Expr ((e : Expr) × SizedByNodes e) (List Instruction) (λ e. code_of e.0) y)) (count_step (map-Expr ((e : Expr) × SizedByNodes e) ℕ (λ e. expr_size e.0) y))
 sized_level (Expr-F.Number n) = record { count = refl; size = refl }
 sized_level (Expr-F.Sensor i) = record { count = refl; size = refl }
 sized_level (Expr-F.Cell i) = record { count = refl; size = refl }
 sized_level (Expr-F.Let i) = record { count = refl; size = refl }
-sized_level (Expr-F.Neg x) = one (code_of x.0) Neg (node_count x.0) refl x.1
-sized_level (Expr-F.Not x) = one (code_of x.0) Not (node_count x.0) refl x.1
-sized_level (Expr-F.Abs x) = one (code_of x.0) Abs (node_count x.0) refl x.1
+sized_level (Expr-F.Neg x) = one (code_of x.0) Neg (expr_size x.0) refl x.1
+sized_level (Expr-F.Not x) = one (code_of x.0) Not (expr_size x.0) refl x.1
+sized_level (Expr-F.Abs x) = one (code_of x.0) Abs (expr_size x.0) refl x.1
 sized_level (Expr-F.Two op a b) =
-    same_size _ (node_count a.0 + (node_count b.0 + 1)) (node_count a.0 + node_count b.0 + 1) (omega arith)
-    (front (code_of a.0) (code_of b.0 ++ Two op ∷ []) (node_count a.0) (node_count b.0 + 1) a.1
-    (one (code_of b.0) (Two op) (node_count b.0) refl b.1))
+    same_size _ (expr_size a.0 + (expr_size b.0 + 1)) (expr_size a.0 + expr_size b.0 + 1) (omega arith)
+    (front (code_of a.0) (code_of b.0 ++ Two op ∷ []) (expr_size a.0) (expr_size b.0 + 1) a.1
+    (one (code_of b.0) (Two op) (expr_size b.0) refl b.1))
 sized_level (Expr-F.Clamp x low high) =
-    same_size _ (node_count x.0 + (node_count low.0 + (node_count high.0 + 1))) (node_count x.0 + node_count low.0 + node_count high.0 + 1) (omega arith)
-    (front (code_of x.0) (code_of low.0 ++ (code_of high.0 ++ Clamp ∷ [])) (node_count x.0) (node_count low.0 + (node_count high.0 + 1)) x.1
-    (front (code_of low.0) (code_of high.0 ++ Clamp ∷ []) (node_count low.0) (node_count high.0 + 1) low.1
-    (one (code_of high.0) Clamp (node_count high.0) refl high.1)))
+    same_size _ (expr_size x.0 + (expr_size low.0 + (expr_size high.0 + 1))) (expr_size x.0 + expr_size low.0 + expr_size high.0 + 1) (omega arith)
+    (front (code_of x.0) (code_of low.0 ++ (code_of high.0 ++ Clamp ∷ [])) (expr_size x.0) (expr_size low.0 + (expr_size high.0 + 1)) x.1
+    (front (code_of low.0) (code_of high.0 ++ Clamp ∷ []) (expr_size low.0) (expr_size high.0 + 1) low.1
+    (one (code_of high.0) Clamp (expr_size high.0) refl high.1)))
 sized_level (Expr-F.If test a b) =
-    same_size _ (node_count test.0 + (node_count a.0 + (node_count b.0 + 1))) (node_count test.0 + node_count a.0 + node_count b.0 + 1) (omega arith)
-    (front (code_of test.0) (code_of a.0 ++ (code_of b.0 ++ If ∷ [])) (node_count test.0) (node_count a.0 + (node_count b.0 + 1)) test.1
-    (front (code_of a.0) (code_of b.0 ++ If ∷ []) (node_count a.0) (node_count b.0 + 1) a.1
-    (one (code_of b.0) If (node_count b.0) refl b.1)))
+    same_size _ (expr_size test.0 + (expr_size a.0 + (expr_size b.0 + 1))) (expr_size test.0 + expr_size a.0 + expr_size b.0 + 1) (omega arith)
+    (front (code_of test.0) (code_of a.0 ++ (code_of b.0 ++ If ∷ [])) (expr_size test.0) (expr_size a.0 + (expr_size b.0 + 1)) test.1
+    (front (code_of a.0) (code_of b.0 ++ If ∷ []) (expr_size a.0) (expr_size b.0 + 1) a.1
+    (one (code_of b.0) If (expr_size b.0) refl b.1)))
 
-node_count-roll : (x : Expr-F Expr) → node_count (roll-Expr x) ≡ count_step (map-Expr Expr ℕ node_count x)
-node_count-roll = fold-roll-Expr ℕ count_step
+expr_size-roll : (x : Expr-F Expr) → expr_size (roll-Expr x) ≡ count_step (map-Expr Expr ℕ expr_size x)
+expr_size-roll = fold-roll-Expr ℕ count_step
 
 sized_rolled : (y : Expr-F ((e : Expr) × SizedByNodes e)) → SizedByNodes (roll-Expr (map-Expr ((e : Expr) × SizedByNodes e) Expr (λ e. e.0) y))
 sized_rolled y =
     let x : Expr-F Expr = map-Expr ((e : Expr) × SizedByNodes e) Expr (λ e. e.0) y in
     let code : code_of (roll-Expr x) ≡ code_step (map-Expr ((e : Expr) × SizedByNodes e) (List Instruction) (λ e. code_of e.0) y) = code_of-roll x ∙ ap code_step (map-map SizedByNodes code_of y) in
-    let count : node_count (roll-Expr x) ≡ count_step (map-Expr ((e : Expr) × SizedByNodes e) ℕ (λ e. node_count e.0) y) = node_count-roll x ∙ ap count_step (map-map SizedByNodes node_count y) in
-    subst (λ c. Sized c (node_count (roll-Expr x))) (sym code)
+    let count : expr_size (roll-Expr x) ≡ count_step (map-Expr ((e : Expr) × SizedByNodes e) ℕ (λ e. expr_size e.0) y) = expr_size-roll x ∙ ap count_step (map-map SizedByNodes expr_size y) in
+    subst (λ c. Sized c (expr_size (roll-Expr x))) (sym code)
     (subst (λ n. Sized (code_step (map-Expr ((e : Expr) × SizedByNodes e) (List Instruction) (λ e. code_of e.0) y)) n) (sym count) (sized_level y))
 
 sized : (e : Expr) → SizedByNodes e
@@ -85,20 +85,20 @@ result_count-lets_code [] = refl
 result_count-lets_code (row ∷ rows) =
     omega (arith, result_count-append (code_of row.value) (Keep ∷ lets_code rows), (sized row.value).count, result_count-lets_code rows)
 
-length-lets_code : (rows : List LetRow) → length (lets_code rows) ≡ sum_by (λ row. node_count row.value) rows + length rows
+length-lets_code : (rows : List LetRow) → length (lets_code rows) ≡ sum_by (λ row. expr_size row.value) rows + length rows
 length-lets_code [] = refl
 length-lets_code (row ∷ rows) =
-    omega (arith, length-append (code_of row.value) (Keep ∷ lets_code rows), (sized row.value).size, length-lets_code rows, sum_by-cons (λ (r : LetRow). node_count r.value) row rows)
+    omega (arith, length-append (code_of row.value) (Keep ∷ lets_code rows), (sized row.value).size, length-lets_code rows, sum_by-cons (λ (r : LetRow). expr_size r.value) row rows)
 
 result_count-sets_code : (rows : List SetRow) → result_count (sets_code rows) ≡ length rows
 result_count-sets_code [] = refl
 result_count-sets_code (row ∷ rows) =
     omega (arith, result_count-append (code_of row.value) (Give ∷ sets_code rows), (sized row.value).count, result_count-sets_code rows)
 
-length-sets_code : (rows : List SetRow) → length (sets_code rows) ≡ sum_by (λ row. node_count row.value) rows + length rows
+length-sets_code : (rows : List SetRow) → length (sets_code rows) ≡ sum_by (λ row. expr_size row.value) rows + length rows
 length-sets_code [] = refl
 length-sets_code (row ∷ rows) =
-    omega (arith, length-append (code_of row.value) (Give ∷ sets_code rows), (sized row.value).size, length-sets_code rows, sum_by-cons (λ (r : SetRow). node_count r.value) row rows)
+    omega (arith, length-append (code_of row.value) (Give ∷ sets_code rows), (sized row.value).size, length-sets_code rows, sum_by-cons (λ (r : SetRow). expr_size r.value) row rows)
 
 -- a task's code computes the task
 pub task_code_computes : (task : Task) → Computes task (task_code task)

@@ -57,11 +57,11 @@ count_step (Expr-F.Clamp x low high) = x + low + high + 1
 count_step (Expr-F.If test a b) = test + a + b + 1
 
 -- the nodes of an expression
-abbrev pub node_count : Expr → ℕ
-node_count = fold-Expr ℕ count_step
+abbrev pub expr_size : Expr → ℕ
+expr_size = fold-Expr ℕ count_step
 
 -- the nodes of a task's expressions, its lets and its sets
 abbrev pub task_size : Task → ℕ
 task_size task =
-    sum_by (λ row. node_count row.value) task.lets + length task.lets
-    + sum_by (λ row. node_count row.value) task.sets + length task.sets
+    sum_by (λ row. expr_size row.value) task.lets + length task.lets
+    + sum_by (λ row. expr_size row.value) task.sets + length task.sets

@@ -6,7 +6,7 @@ use Rattle.rcp_model.specs.Expr.{value_of}
 use Rattle.rcp_model.specs.Task.{let_values}
 use Rattle.task_code.specs.declared.instruction.Instruction.{Instruction}
 use Rattle.task_code.specs.Machine.{results, result_count}
-use Rattle.task_code.specs.Compiler.{node_count, task_size}
+use Rattle.task_code.specs.Compiler.{expr_size, task_size}
 
 -- the value of each set row, in the order of the rows
 abbrev pub set_values : Task → List ℤ → List ℤ → List ℤ
@@ -22,4 +22,4 @@ pub record Computes (task : Task) (code : List Instruction) : Type 0 where
 pub record ComputesExpr (e : Expr) (code : List Instruction) : Type 0 where
   pub values : (sensors cells : List ℤ) → results code sensors cells ≡ value_of e [] sensors cells ∷ []
   pub count : result_count code ≡ 1
-  pub size : length code ≤ node_count e + 1
+  pub size : length code ≤ expr_size e + 1

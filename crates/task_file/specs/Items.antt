@@ -27,14 +27,14 @@ is_median_word text =
     else None
 
 -- what the key `vote` of a table says
-abbrev pub vote_at : Members → Option Bool
-vote_at members = option_and_then is_median_word (text_at (codes "vote") members)
+abbrev pub median_at : Members → Option Bool
+median_at members = option_and_then is_median_word (text_at (codes "vote") members)
 
 -- the median votes a table that may have the key `vote`, and says so there
 abbrev pub median_in : Bool → Section → ℕ → Members → Result Bool FileFault
 median_in false at i _ = Ok false
 median_in true at i members =
-    where_there false (there (of_table_key at i key.Vote) (vote_at members)) (get_member (codes "vote") members)
+    where_there false (there (of_table_key at i key.Vote) (median_at members)) (get_member (codes "vote") members)
 
 -- the keys of a variable, which may have `vote` or not
 abbrev pub variable_keys : Bool → List (List ℕ)

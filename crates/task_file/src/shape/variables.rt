@@ -37,8 +37,8 @@ fn is_median_word(text: &str) -> Option<bool>
     }
 }
 
-fn vote_at(table: &Table) -> Option<bool>
-    ensures { result ≡ spec.vote_at (table_view table.now) }
+fn median_at(table: &Table) -> Option<bool>
+    ensures { result ≡ spec.median_at (table_view table.now) }
 {
     let text = text_at(table, "vote")?;
     is_median_word(text)
@@ -52,7 +52,7 @@ fn median_in(votes: bool, at: Section, i: u32, table: &Table) -> Result<bool, Fi
     if !votes || !has(table, "vote") {
         return Ok(false);
     }
-    vote_at(table).ok_or(FileFault::Shape {
+    median_at(table).ok_or(FileFault::Shape {
         path: of_table_key(at, i, Key::Vote),
     })
 }

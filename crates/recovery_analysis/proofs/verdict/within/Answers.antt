@@ -1,6 +1,6 @@
 use Rattle.std.proofs.Common.{ℕ, true, inl, inr, sym, ◌∙◌, subst, arith}
 use Rattle.recovery_analysis.specs.Graphs.{graph_of}
-use Rattle.recovery_analysis.specs.Verdict.{IsWithin}
+use Rattle.recovery_analysis.specs.Verdict.{TellsWithin}
 use Rattle.recovery_analysis.specs.inner.Levels.{AnswersLeast}
 use Rattle.recovery_analysis.proofs.WithinLemmas.{enough, below, none_if, early_level_tells, last_level_tells, within_of_graphs}
 use Rattle.recovery_analysis.proofs.verdict.within.Goals.{then-limit-count, else-limit-count}
@@ -33,7 +33,7 @@ returns-clause-within c =
     ]) in
     let found = c.least_of-longest.ensures g c.loop-depth._depth (sym c.slots-2.ensures.value) c.loop-depth.invariant in
     let last = subst (λ (k : ℕ). AnswersLeast g k c.least_of-longest.result) (omega arith) found in
-    subst (IsWithin limit g) (sym (none_if c.least_of-longest.result c.is_none-2.result c.is_none-2.ensures)) (last_level_tells g limit c.if-limit-count.steps c.least_of-longest.result c.requires.limit enough_steps last)
+    subst (TellsWithin limit g) (sym (none_if c.least_of-longest.result c.is_none-2.result c.is_none-2.ensures)) (last_level_tells g limit c.if-limit-count.steps c.least_of-longest.result c.requires.limit enough_steps last)
 
 pub returns-clause-graph : goal.returns-clause-graph
 returns-clause-graph c = within_of_graphs c.args.rows.now c.args.pattern.now c.args.limit c.is_none-2.result (returns-clause-within c)
