@@ -1,5 +1,5 @@
 -- The first frame of a journal, and the next.
-use Rattle.std.proofs.Common.{◌≡◌, ℕ, ◌+◌, suc, slice_get, Some, ap, sym, subst, arith}
+use Rattle.std.proofs.Common.{◌≡◌, ℕ, ◌+◌, suc, slice_get, Some, Result, Ok, Err, IfOk, ap, sym, subst, arith}
 use Rattle.rcp_model.specs.declared.plan.PlanParts.{PlanParts}
 use Rattle.rcp_model.specs.Uniprocessor.{initial_values}
 use Rattle.rcp_model.specs.FrameLimits.{IsFrameOf}
@@ -23,6 +23,12 @@ can_fill_first plan history journal rows is quiet of_plan =
       of_plan = of_plan;
       sensors = subst P (sym is.start) (ap (λ (r : FrameRows). r.sensors) quiet);
     }
+
+pub can_begin : {E : Type 0} (plan : PlanParts) (history : History) (journal : Journal) (result : Result FrameRows E) → IsAtStart plan history journal
+    → IfOk result (λ rows. rows ≡ no_rows plan (initial_values plan.sensors)) → IfOk result (IsFrameOf plan)
+    → IfOk result (λ rows. (history : History) × CanFillNext plan history journal rows)
+can_begin plan history journal (Ok rows) is quiet of_plan = (history, can_fill_first plan history journal rows is quiet of_plan)
+can_begin plan history journal (Err e) is quiet of_plan = tt
 
 -- after a frame that was filled in, the rows have its sensors
 pub can_fill_next : (plan : PlanParts) (history : History) (old new : Journal) (before rows : FrameRows) → CanFillNext plan history old before → Tells new plan history
