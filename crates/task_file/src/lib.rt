@@ -22,6 +22,3 @@ pub use display::path_text;
 pub use fault::FileFault;
 pub use file::read_plan;
 pub use path::{Key, Path, Section};
-
-#[cfg(test)]
-mod tests;

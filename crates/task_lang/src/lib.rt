@@ -17,6 +17,3 @@ mod token;
 pub use fault::LangFault;
 pub use parser::{parse_body, parse_expr};
 pub use printer::print_body;
-
-#[cfg(test)]
-mod tests;

@@ -1,8 +1,9 @@
 //! Whole files: the parts of a good one, and the fault of each that is changed, worked by hand from the rules.
 //! This project's own.
-use crate::{FileFault, Key, Path, Section, path_text, read_plan};
 use std::alloc::Global;
 use std::test::Fail;
+use rcp_model::Plan;
+use task_file::{FileFault, Key, Path, Section, path_text, read_plan};
 
 const FILE: &str = r#"replicas = 3
 timing = { compute = 30000, broadcast = 10000, vote = 4000, sync = 6000, skew = 50, drift_ppm = 100, delay_min = 100, delay_max = 2000, skew_limit = 500, drift_limit_ppm = 500 }
@@ -16,6 +17,24 @@ actuator = [{ name = "out", value = "n + m" }]
 // Parts of the file, what stands in their place, and the fault.
 const FAULTS: &str = r#"replicas = 3 => replicas => no document
 replicas = 3 => replicas = 10 => shape replicas
+replicas = 3 => replicas = "3" => shape replicas
+timing = { => time = { => shape timing
+sync = 6000,  =>  => shape timing.sync
+skew = 50 => skew = 1000000001 => shape timing.skew
+compute = 30000 => compute = -1, more = 0 => shape timing.compute
+drift_limit_ppm = 500 => drift_limit_ppm = 500, more = 0 => shape timing.?
+[{ name = "s", initial = -1 }] => 7 => shape sensor
+[{ name = "n", initial = 0 }, { name = "m", initial = 7 }] => [] => shape cell
+{ name = "m", initial = 7 } => 4 => shape cell[1]
+name = "m" => title = "m" => shape cell[1].name
+initial = 7 => initial = "7" => shape cell[1].initial
+initial = 7 => initial = 7, last = 2 => shape cell[1].?
+"m := s;" => ["m := s;"] => shape task[1].body
+["first", "last"] => "first" => shape slot[0].tasks
+["n", "m"] => ["n", 3] => shape slot[0].votes[1]
+, votes = ["n", "m"] =>  => shape slot[0].votes
+value = "n + m" => value = 1 => shape actuator[0].value
+actuator = => speed = => shape ?
 name = "s" => name = "S" => bad name sensor[0].name
 name = "m" => name = "s" => bad name cell[1].name
 name = "last" => name = "first" => bad name task[1].name
@@ -32,7 +51,8 @@ m := s; => n := s; => clash slot[0].tasks[1]
 sync = 6000 => sync = 0 => timing 1
 "#;
 
-fn told(alloc: Global, fault: FileFault) -> Result<String, Fail> {
+/// The fault and its place in words.
+pub fn told(alloc: Global, fault: FileFault) -> Result<String, Fail> {
     Ok(match fault {
         FileFault::TooLong => format!(in alloc; "too long")?,
         FileFault::NotToml => format!(in alloc; "no document")?,
@@ -50,12 +70,13 @@ fn told(alloc: Global, fault: FileFault) -> Result<String, Fail> {
 
 // The fault of the file with one part in place of another.
 fn fault_of(alloc: Global, old: &str, new: &str) -> Result<FileFault, Fail> {
-    let (before, behind) = FILE.split_once(old).ok_or("no such part")?;
-    let text = format!(in alloc; "{before}{new}{behind}")?;
+    let (before, after) = FILE.split_once(old).ok_or("no such part")?;
+    let text = format!(in alloc; "{before}{new}{after}")?;
     fault_in(alloc, text.as_bytes())
 }
 
-fn fault_in(alloc: Global, bytes: &[u8]) -> Result<FileFault, Fail> {
+/// The fault of a file that has one.
+pub fn fault_in(alloc: Global, bytes: &[u8]) -> Result<FileFault, Fail> {
     match read_plan(alloc, bytes) {
         Ok(_) => Err(Fail::from("no fault")),
         Err(fault) => Ok(fault),
@@ -74,23 +95,49 @@ fn each_fault_is_told_with_its_place(rt: HostRuntime) -> Result<(), Fail> {
     Ok(())
 }
 
+// The plan of the good file.
+fn good_plan(alloc: Global) -> Result<Plan, Fail> {
+    Ok(read_plan(alloc, FILE.as_bytes()).map_err(|_| "refused")?)
+}
+
 #[test]
-fn a_good_file_gives_its_parts(rt: HostRuntime) -> Result<(), Fail> {
-    let plan = read_plan(rt.alloc(), FILE.as_bytes()).map_err(|_| "refused")?;
-    let parts = plan.parts();
-    assert_eq!(rt; parts.replicas, 3);
-    assert_eq!(rt; parts.timing.drift_ppm, 100);
-    assert_eq!(rt; parts.sensors.len(), 1);
-    let cell = parts.cells.as_slice().last().ok_or("no cell")?;
+fn a_good_file_gives_its_numbers(rt: HostRuntime) -> Result<(), Fail> {
+    let plan = good_plan(rt.alloc())?;
+    assert_eq!(rt; plan.parts().replicas, 3);
+    assert_eq!(rt; plan.parts().timing.drift_ppm, 100);
+    Ok(())
+}
+
+#[test]
+fn a_good_file_gives_its_cells(rt: HostRuntime) -> Result<(), Fail> {
+    let plan = good_plan(rt.alloc())?;
+    let cell = plan.parts().cells.as_slice().last().ok_or("no cell")?;
     assert_eq!(rt; cell.name.bytes(), b"m".as_slice());
     assert_eq!(rt; cell.initial, 7);
-    let task = parts.tasks.as_slice().last().ok_or("no task")?;
+    Ok(())
+}
+
+#[test]
+fn a_good_file_gives_its_tasks(rt: HostRuntime) -> Result<(), Fail> {
+    let plan = good_plan(rt.alloc())?;
+    let task = plan.parts().tasks.as_slice().last().ok_or("no task")?;
     assert_eq!(rt; task.name.bytes(), b"last".as_slice());
-    assert_eq!(rt; task.sets.len(), 1);
-    let slot = parts.slots.as_slice().first().ok_or("no slot")?;
+    Ok(())
+}
+
+#[test]
+fn a_good_file_gives_its_slots(rt: HostRuntime) -> Result<(), Fail> {
+    let plan = good_plan(rt.alloc())?;
+    let slot = plan.parts().slots.as_slice().first().ok_or("no slot")?;
     assert_eq!(rt; slot.tasks.as_slice(), [0, 1].as_slice());
     assert_eq!(rt; slot.votes.as_slice(), [0, 1].as_slice());
-    let actuator = parts.actuators.as_slice().first().ok_or("no actuator")?;
+    Ok(())
+}
+
+#[test]
+fn a_good_file_gives_its_actuators(rt: HostRuntime) -> Result<(), Fail> {
+    let plan = good_plan(rt.alloc())?;
+    let actuator = plan.parts().actuators.as_slice().first().ok_or("no actuator")?;
     assert_eq!(rt; actuator.name.bytes(), b"out".as_slice());
     Ok(())
 }
@@ -120,7 +167,16 @@ fn place(section: Section, index: Option<u32>, key: Option<Key>, item: Option<u3
 fn places_are_printed_as_far_as_they_go(rt: HostRuntime) -> Result<(), Fail> {
     for (path, text) in [
         (place(Section::Replicas, None, None, None), "replicas"),
+        (place(Section::Format, None, None, None), "format"),
+        (
+            place(Section::RecoveryLimit, None, None, None),
+            "recovery_limit",
+        ),
         (place(Section::Unknown, None, None, None), "?"),
+        (
+            place(Section::Cell, Some(0), Some(Key::Vote), None),
+            "cell[0].vote",
+        ),
         (
             place(Section::Timing, None, Some(Key::DriftLimitPpm), None),
             "timing.drift_limit_ppm",

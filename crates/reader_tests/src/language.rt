@@ -1,12 +1,12 @@
 //! What the rules of the language say of some texts, worked by hand.
 //! This project's own.
-use crate::{LangFault, parse_body, parse_expr, print_body};
 use rcp_base::Name;
 use rcp_model::{Expr, Task};
 use std::alloc::{AllocError, Global};
 use std::process::Abort;
 use std::str;
 use std::test::Fail;
+use task_lang::{LangFault, parse_body, parse_expr, print_body};
 
 // A name of 32 bytes.
 const LONGEST: &str = "a2345678901234567890123456789012";
