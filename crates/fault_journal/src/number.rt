@@ -45,7 +45,7 @@ fn worth_of(text: &[u8]) -> Option<i64>
     requires { spec.is_number text.now ≡ true }
     ensures { result
         ≡ (if spec.fits_in_64_bits (spec.worth text.now)
-            then Some (spec.worth text.now) else None) }
+        then Some (spec.worth text.now) else None) }
 {
     match str::from_utf8(text) {
         Ok(text) => text.parse::<i64>().ok(),

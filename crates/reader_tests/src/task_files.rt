@@ -1,8 +1,8 @@
 //! Whole files: the parts of a good one, and the fault of each that is changed, worked by hand from the rules.
 //! This project's own.
+use rcp_model::Plan;
 use std::alloc::Global;
 use std::test::Fail;
-use rcp_model::Plan;
 use task_file::{FileFault, Key, Path, Section, path_text, read_plan};
 
 const FILE: &str = r#"replicas = 3
@@ -137,7 +137,12 @@ fn a_good_file_gives_its_slots(rt: HostRuntime) -> Result<(), Fail> {
 #[test]
 fn a_good_file_gives_its_actuators(rt: HostRuntime) -> Result<(), Fail> {
     let plan = good_plan(rt.alloc())?;
-    let actuator = plan.parts().actuators.as_slice().first().ok_or("no actuator")?;
+    let actuator = plan
+        .parts()
+        .actuators
+        .as_slice()
+        .first()
+        .ok_or("no actuator")?;
     assert_eq!(rt; actuator.name.bytes(), b"out".as_slice());
     Ok(())
 }

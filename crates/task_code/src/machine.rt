@@ -120,7 +120,8 @@ impl Machine {
 fn combine(stack: &mut Stack, op: Op)
     requires { length stack.old.numbers - 1 - 1 + 1 ≤ stack.old.room }
     ensures { stack.new ≡ record stack.old {
-        numbers = machine.two_topmost (expr.op_result op) stack.old.numbers } }
+      numbers = machine.two_topmost (expr.op_result op) stack.old.numbers;
+    } }
 {
     let b = stack.pop();
     let a = stack.pop();
@@ -131,8 +132,10 @@ fn combine(stack: &mut Stack, op: Op)
 #[tactic(auto, using(crate::proofs::StackLemmas::length_rest))]
 fn clamp(stack: &mut Stack)
     requires { length stack.old.numbers - 1 - 1 - 1 + 1 ≤ stack.old.room }
-    ensures { stack.new ≡ record stack.old { numbers = machine.three_topmost
-        (λ x low high. int_max low (int_min x high)) stack.old.numbers } }
+    ensures { stack.new ≡ record stack.old {
+      numbers = machine.three_topmost
+          (λ x low high. int_max low (int_min x high)) stack.old.numbers;
+    } }
 {
     let high = stack.pop();
     let low = stack.pop();
@@ -144,8 +147,10 @@ fn clamp(stack: &mut Stack)
 #[tactic(auto, using(crate::proofs::StackLemmas::length_rest))]
 fn choose(stack: &mut Stack)
     requires { length stack.old.numbers - 1 - 1 - 1 + 1 ≤ stack.old.room }
-    ensures { stack.new ≡ record stack.old { numbers = machine.three_topmost
-        (λ test a b. if expr.is_true test then a else b) stack.old.numbers } }
+    ensures { stack.new ≡ record stack.old {
+      numbers = machine.three_topmost
+          (λ test a b. if expr.is_true test then a else b) stack.old.numbers;
+    } }
 {
     let b = stack.pop();
     let a = stack.pop();
