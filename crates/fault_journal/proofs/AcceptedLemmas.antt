@@ -19,7 +19,7 @@ use Rattle.fault_journal.specs.Columns.{kind_of, written_row}
 use Rattle.fault_journal.specs.Limits.{is_within_limits, frame_is_there, is_on_a_message, is_below, packed}
 use Rattle.fault_journal.specs.Journal.{Fields, SixFields, six_fields, is_end, follows, repeats, row_of, JournalRows, rows_at_end, rows_from, rows_of_records, journal_rows, is_header, records_of}
 use Rattle.fault_journal.specs.Filling.{IsRowOf}
-use Rattle.fault_journal.specs.Accepted.{AreJournalRows}
+use Rattle.fault_journal.proofs.Accepted.{AreJournalRows}
 use Rattle.fault_journal.proofs.WrittenLemmas.{then-Ok, passes-Ok, found-Ok, IsWritten, written_row-Ok}
 
 -- the tests of a row after its columns

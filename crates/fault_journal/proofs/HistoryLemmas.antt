@@ -8,7 +8,7 @@ use Rattle.rcp_model.specs.FrameLimits.{IsFrameOf}
 use Rattle.layer_stack.specs.Inputs.{IsHistoryOf}
 use Rattle.fault_journal.specs.Journal.{JournalRows, journal_rows}
 use Rattle.fault_journal.specs.History.{frame_of, history_of, journal_result}
-use Rattle.fault_journal.specs.Accepted.{AreJournalRows}
+use Rattle.fault_journal.proofs.Accepted.{AreJournalRows}
 use Rattle.fault_journal.specs.Laws.{JournalsGiveHistories}
 use Rattle.fault_journal.proofs.WithinLemmas.{frame_of-is_of_plan, frame_of-is_within_limits}
 use Rattle.fault_journal.proofs.WrittenLemmas.{then-Ok}

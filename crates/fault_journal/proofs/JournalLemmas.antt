@@ -15,11 +15,18 @@ use Rattle.fault_journal.specs.declared.row.Row.{Row}
 use Rattle.fault_journal.specs.declared.journal.Journal.{Journal}
 use Rattle.fault_journal.specs.History.{frame_of, history_of}
 use Rattle.fault_journal.specs.Filling.{IsRowOf, put_all}
-use Rattle.fault_journal.specs.Telling.{IsPlaceAfter, IsOver, Tells, CanGoOn}
+use Rattle.fault_journal.specs.Telling.{IsPlaceAfter, IsOver, Tells}
 use Rattle.fault_journal.proofs.SaidLemmas.{sensors_in, frame_of-built}
 use Rattle.fault_journal.proofs.FrameLemmas.{frame_begins, first_frame, sensors_next, later_rows}
 use Rattle.fault_journal.proofs.ReverseLemmas.{All-reverse, split_rows}
 use Rattle.fault_journal.proofs.PutLemmas.{put_all-frame}
+
+-- the frame at hand can be filled into these rows: they have the sizes of the plan, and the sensors so far
+pub record CanGoOn (plan : PlanParts) (journal : Journal) (rows : FrameRows) : Type 0 where
+  pub over : IsOver plan journal
+  pub rows_of_plan : AreRowsOf plan rows
+  pub initial : journal.done ≡ 0 → rows.sensors ≡ initial_values plan.sensors
+  pub sensors : (frame : ℕ) → journal.done ≡ suc frame → rows.sensors ≡ (frame_of plan (reverse journal.rows.items) frame).sensors
 
 -- the number of frames
 pub told-length : (journal : Journal) (plan : PlanParts) (history : History) → Tells journal plan history → journal.frames ≡ length history

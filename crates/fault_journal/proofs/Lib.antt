@@ -10,6 +10,7 @@ pub mod SaidLemmas
 pub mod FrameLemmas
 pub mod WithinLemmas
 pub mod WrittenLemmas
+pub mod Accepted
 pub mod AcceptedLemmas
 pub mod HistoryLemmas
 pub mod ReverseLemmas

@@ -1,12 +1,11 @@
 -- What is put into a frame: a row by its kind, all sensors, rows one after the other.
-use Rattle.std.proofs.Common.{◌≡◌, ℕ, ◌+◌, ◌<◌, List, [], ◌∷◌, ◌++◌, length, get_or, set, take, drop, reverse, ℤ, pos, negsuc, nat_abs, true, All, sym, refl, ap, ◌∙◌, arith, subst, append_assoc, length-take-le}
+use Rattle.std.proofs.Common.{◌≡◌, ℕ, ◌+◌, List, [], ◌∷◌, ◌++◌, reverse, ℤ, pos, negsuc, nat_abs, true, All, sym, refl, ap, ◌∙◌, arith, subst, append_assoc}
 use Rattle.std.proofs.lemmas.Int.{ints}
-use Rattle.std.proofs.lemmas.List.{reverse-append, drop_more, take_more, set_at}
+use Rattle.std.proofs.lemmas.List.{reverse-append}
 use Rattle.std.proofs.lemmas.List.Elements.{All-head, All-tail}
 use Rattle.rcp_base.specs.Answers.{natural_of}
 use Rattle.rcp_model.specs.declared.plan.PlanParts.{PlanParts}
 use Rattle.rcp_model.specs.FrameRows.{FrameRows, AreRowsOf}
-use Rattle.rcp_model.specs.RowWrites.{with_sensor}
 use Rattle.fault_journal.specs.declared.row.Kind.{Kind}
 use Rattle.fault_journal.specs.declared.row.Kind.TheVariants as kind
 use Rattle.fault_journal.specs.declared.row.Row.{Row}
@@ -39,26 +38,6 @@ put_by-of_plan plan kind.End rows row are = are
 pub put_row_is_of_plan : (plan : PlanParts) (rows new : FrameRows) (row : Row) → new ≡ put_row rows row → AreRowsOf plan rows → AreRowsOf plan new
 unfolding put_row
 put_row_is_of_plan plan rows new row is are = subst (AreRowsOf plan) (sym is) (put_by-of_plan plan row.kind rows row are)
-
--- one sensor more has its value
-set_front : (values sensors : List ℤ) (i : ℕ) (value : ℤ) → i < length values → i < length sensors → value ≡ get_or values i value
-    → set (take i values ++ drop i sensors) i value ≡ take (i + 1) values ++ drop (i + 1) sensors
-set_front values sensors i value below within is =
-    let split = drop_more sensors i value within in
-    let front = length-take-le i values (omega arith) in
-    ap (λ (rest : List ℤ). set (take i values ++ rest) i value) split
-    ∙ set_at (take i values) (get_or sensors i value) (drop (i + 1) sensors) value i front
-    ∙ sym (append_assoc (take i values) (value ∷ []) (drop (i + 1) sensors))
-    ∙ ap (λ (x : ℤ). (take i values ++ x ∷ []) ++ drop (i + 1) sensors) is
-    ∙ ap (λ (t : List ℤ). t ++ drop (i + 1) sensors) (sym (take_more values i value below))
-
-pub set_more : (rows now : FrameRows) (values : List ℤ) (i : ℕ) (value : ℤ) → i < length values → length values ≡ length rows.sensors → value ≡ get_or values i value
-    → now ≡ record rows { sensors = take i values ++ drop i rows.sensors }
-    → with_sensor now i value ≡ record rows { sensors = take (i + 1) values ++ drop (i + 1) rows.sensors }
-unfolding with_sensor
-set_more rows now values i value below same is so_far =
-    ap (λ (r : FrameRows). record r { sensors = set r.sensors i value }) so_far
-    ∙ ap (λ (t : List ℤ). record rows { sensors = t }) (set_front values rows.sensors i value below (omega arith) is)
 
 -- rows of the frame at hand, one after the other
 pub put_all-frame : (plan : PlanParts) (more before : List Row) (frame : ℕ) → All (λ row. row.frame ≡ frame) more → All (IsRowOf plan) more

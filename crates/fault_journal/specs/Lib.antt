@@ -8,6 +8,5 @@ pub mod Seen
 pub mod Records
 pub mod Rows
 pub mod Filling
-pub mod Accepted
 pub mod Telling
 pub mod Laws

@@ -1,15 +1,13 @@
 -- What a journal tells, and which frames it has filled in. This project's own.
-use Rattle.std.specs.Prelude.{◌≡◌, ℕ, suc, ◌<◌, ◌≤◌, List, reverse, length, take, drop, All, AllPairs}
+use Rattle.std.specs.Prelude.{◌≡◌, ℕ, ◌<◌, ◌≤◌, List, reverse, length, take, drop, All, AllPairs}
 use Rattle.rcp_model.specs.declared.plan.PlanParts.{PlanParts}
 use Rattle.rcp_model.specs.Plan.{IsPlan}
-use Rattle.rcp_model.specs.Uniprocessor.{initial_values}
-use Rattle.rcp_model.specs.FrameRows.{FrameRows, AreRowsOf}
 use Rattle.rcp_model.specs.History.{History}
 use Rattle.layer_stack.specs.Inputs.{IsHistoryOf}
 use Rattle.fault_journal.specs.declared.row.Row.{Row}
 use Rattle.fault_journal.specs.declared.journal.Journal.{Journal}
 use Rattle.fault_journal.specs.Journal.{JournalRows}
-use Rattle.fault_journal.specs.History.{frame_of, history_of}
+use Rattle.fault_journal.specs.History.{history_of}
 use Rattle.fault_journal.specs.Filling.{IsRowOf}
 
 -- the first so many rows are those of the frames that are done
@@ -29,10 +27,6 @@ pub record IsOver (plan : PlanParts) (journal : Journal) : Type 0 where
 abbrev pub told_by : Journal → JournalRows
 told_by journal = record { rows = reverse journal.rows.items; frames = journal.frames }
 
--- those of the frames that are done
-abbrev pub rows_done : Journal → List Row
-rows_done journal = reverse (take journal.place journal.rows.items)
-
 -- the rows of all frames that a journal over the plan tells of
 abbrev pub history_in : PlanParts → Journal → History
 history_in plan journal = history_of plan (told_by journal)
@@ -47,10 +41,3 @@ pub record IsJournalOf (plan : PlanParts) (journal : Journal) : Type 0 where
   pub tells : Tells journal plan (history_in plan journal)
   pub history_of_plan : IsHistoryOf plan (history_in plan journal)
   pub start : journal.done ≡ 0
-
--- the frame at hand can be filled into these rows: they have the sizes of the plan, and the sensors so far
-pub record CanGoOn (plan : PlanParts) (journal : Journal) (rows : FrameRows) : Type 0 where
-  pub over : IsOver plan journal
-  pub rows_of_plan : AreRowsOf plan rows
-  pub initial : journal.done ≡ 0 → rows.sensors ≡ initial_values plan.sensors
-  pub sensors : (frame : ℕ) → journal.done ≡ suc frame → rows.sensors ≡ (frame_of plan (reverse journal.rows.items) frame).sensors

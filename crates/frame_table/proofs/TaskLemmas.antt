@@ -17,10 +17,6 @@ length-written_back (target ∷ targets) [] cells = refl
 length-written_back (target ∷ targets) (value ∷ values) cells =
     length-set (written_back targets values cells) target value ∙ length-written_back targets values cells
 
--- the value that a row gives to its cell
-value_for : Task → List ℤ → List ℤ → SetRow → ℤ
-value_for task sensors cells row = value_of row.value (let_values task sensors cells) sensors cells
-
 -- one more row: its cell has its value, and any other what it had
 one_row :
     (task : Task) (row : SetRow) (rows : List SetRow) (sensors cells found : List ℤ) (c : ℕ) → c < length found →

@@ -1,10 +1,10 @@
 -- Texts that are added one after the other.
-use Rattle.std.proofs.Common.{◌≡◌, ℕ, List, [], ◌++◌, Result, Ok, Err, append_assoc, append-nil, sym, ap, ◌∙◌, subst, refl, arith}
+use Rattle.std.proofs.Common.{◌≡◌, ℕ, List, [], ◌++◌, Result, Ok, Err, append_assoc, ap, ◌∙◌, subst, refl, arith}
 use Rattle.rcp_base.specs.declared.sink.WriteError.{WriteError}
 use Rattle.rcp_base.specs.declared.sink.WriteError.TheVariants as write
 use Rattle.rcp_base.specs.States.{SinkState}
 use Rattle.rcp_base.specs.Writing.{Writes}
-use Rattle.rcp_base.proofs.WritingLaws.{writes_then, writes_less}
+use Rattle.rcp_base.proofs.WritingLaws.{writes_less}
 use Rattle.std.specs.Prelude.{is_err, true}
 use Rattle.std.proofs.KnownBytes.{Appends-nil}
 use Rattle.rcp_base.specs.Adding.{Adds, IsHalfway}
@@ -15,32 +15,9 @@ adds_then {V = V} a b c r s t one two first second start before wrote =
     let P : List ℕ → Type 0 = λ text. Writes {T = V} start c t text in
     subst P (append_assoc before one two) (second start (before ++ one) (first start before wrote))
 
-pub adds_nothing : {T : Type 0} (a : SinkState) (r : Result T WriteError) → Adds a a r r []
-adds_nothing {T = T} a r start before wrote =
-    let P : List ℕ → Type 0 = λ text. Writes {T = T} start a r text in subst P (sym (append-nil before)) wrote
-
--- after a failure any text was added
-pub adds_failed : {T U V : Type 0} (a b : SinkState) (r : Result T WriteError) (e : WriteError) (one rest : List ℕ)
-    → Adds {U = U} a b r (Err e) one → Adds {U = V} a b r (Err e) (one ++ rest)
-adds_failed {U = U} {V = V} a b r e one rest adds start before wrote =
-    let P : List ℕ → Type 0 = λ text. Writes {T = V} start b (Err e) text in
-    subst P (append_assoc before one rest) (writes_less {T = U} {U = V} start b e (before ++ one) rest (adds start before wrote))
-
--- a write after what went well adds its text
-pub adds_write : {T U : Type 0} (a b : SinkState) (u : T) (result : Result U WriteError) (text : List ℕ) → Writes a b result text → Adds a b (Ok u) result text
-adds_write a b u result text wrote start before so_far = writes_then start a b u result before text so_far wrote
-
 -- a text that was added to nothing was written
 pub adds_all : {T U : Type 0} (a b : SinkState) (u : T) (result : Result U WriteError) (text : List ℕ) → Adds a b (Ok u) result text → Writes a b result text
 adds_all a b u result text adds = adds a [] (record { ok = Appends-nil a.written; err = tt; failed = λ is. cc is; later = omega arith })
-
--- a failure after a part of a text, seen as one of the whole
-pub adds_stopped : {T U : Type 0} (a b : SinkState) (r : Result T WriteError) (result : Result U WriteError) (part rest whole : List ℕ) → part ++ rest ≡ whole
-    → is_err result ≡ true → Adds a b r result part → Adds a b r result whole
-adds_stopped a b r (Ok u) part rest whole same failed adds = cc failed
-adds_stopped {U = U} a b r (Err e) part rest whole same failed adds =
-    let P : List ℕ → Type 0 = λ text. Adds {U = U} a b r (Err e) text in
-    subst P same (adds_failed {U = U} {V = U} a b r e part rest adds)
 
 -- memory ran out before anything was added
 pub adds_memory : {T U : Type 0} (a : SinkState) (r : Result T WriteError) (text : List ℕ) → Adds {U = U} a a r (Err write.Memory) text

@@ -6,21 +6,11 @@ use Rattle.std.proofs.Math.ListN.{get_or-map}
 use Rattle.std.proofs.lemmas.List.Elements.{All-get_or}
 use Rattle.rcp_base.specs.Answers.{◌>>=◌, each_from, IsFaultOr}
 
--- a fault that is said is one that may be told
-pub fault_said : {A F : Type 0} (memory : Bool) (fault : F) (said : Result A F) → said ≡ Err fault → IsFaultOr memory fault said
-fault_said true fault said is = tt
-fault_said false fault said is = is
-
 -- where the part's fault is the whole's
 pub fault_along : {A B F : Type 0} (memory : Bool) (fault : F) (part : Result A F) (whole : Result B F)
     → IsFaultOr memory fault part → (part ≡ Err fault → whole ≡ Err fault) → IsFaultOr memory fault whole
 fault_along true fault part whole h step = tt
 fault_along false fault part whole h step = step h
-
--- a part's fault is that of what goes on with it
-pub fault_then : {A B F : Type 0} (memory : Bool) (fault : F) (part : Result A F) (next : A → Result B F)
-    → IsFaultOr memory fault part → IsFaultOr memory fault (part >>= next)
-fault_then memory fault part next h = fault_along memory fault part (part >>= next) h (λ is. rw is refl)
 
 -- the items read so far, before those that are read later
 abbrev pub after : {B F : Type 0} → List B → Result (List B) F → Result (List B) F

@@ -1,10 +1,7 @@
 -- Folders one call after another.
-use Rattle.std.proofs.Common.{◌≡◌, ℕ, List, Option, Some, inl, inr, ◌∙◌, subst, arith}
+use Rattle.std.proofs.Common.{◌≡◌, ℕ, List, Option, Some, inl, inr, subst, arith}
 use Rattle.rcp_base.specs.Files.{Files, IsMissing, IfTold}
 use Rattle.rcp_base.specs.States.{FolderState, IsLater, IsRead, IsUnread}
-
-pub later_twice : {a b c : FolderState} → IsLater a b → IsLater b c → IsLater a c
-later_twice {a} {b} {c} one two = record { files = two.files ∙ one.files; faults = omega (arith, one.faults, two.faults) }
 
 -- what was read later was read
 pub read_since : {a b : FolderState} (name bytes : List ℕ) → IsLater a b → IsRead b name bytes → IsRead a name bytes

@@ -19,9 +19,6 @@ equal a b e =
     let past : b ≤ a = omega arith in
     cond-false (ltb a b) _ _ (le-ltb a b past) ∙ cond-true (eqb a b) _ _ (eq-eqb a b e)
 
-le_of_less : (o : Ordering) → o ≡ Less → is_le o ≡ true
-le_of_less o e = ap is_le e
-
 -- at most is less or equal
 up_to : (a b : ℕ) → a ≤ b → is_le (nat_cmp a b) ≡ true
 up_to a b h = elim (cases_lt a b) [

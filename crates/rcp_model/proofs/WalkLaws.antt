@@ -1,11 +1,10 @@
 -- The walk that is shown.
-use Rattle.std.proofs.Common.{[], ◌∷◌, ◌++◌, ◌≡◌, ℕ, ◌+◌, ◌-◌, ◌*◌, ◌<◌, ◌≤◌, zero, suc, true, false, ◌&&◌, List, length, reverse, sym, ◌∙◌, ap, subst, arith}
+use Rattle.std.proofs.Common.{[], ◌∷◌, ◌++◌, ◌≡◌, ℕ, ◌+◌, ◌-◌, ◌<◌, ◌≤◌, zero, suc, true, false, ◌&&◌, List, length, reverse, sym, ◌∙◌, ap, subst, arith}
 use Rattle.std.proofs.lemmas.Bool.{and_parts, and_from, both_ways}
 use Rattle.std.proofs.lemmas.List.{get_or-reverse, length-reverse}
 use Rattle.std.proofs.lemmas.List.FromFn.{map-range_with_len_more, length-map-range_with_len, get_or-map-range_with_len}
-use Rattle.std.proofs.Math.Nat.{mul-le-mul_right}
 use Rattle.rcp_model.specs.declared.node.Node.{Node}
-use Rattle.rcp_model.specs.Walk.{Graph, node_count, no_node, at, IsUnvoted, StepsTo, EndsWalk}
+use Rattle.rcp_model.specs.Walk.{Graph, node_count, no_node, at, StepsTo, EndsWalk}
 use Rattle.rcp_model.specs.Levels.{number, node_of, steps_to, level, goes, has_level_node}
 use Rattle.rcp_model.specs.Shown.{walk_node, walk_nodes}
 use Rattle.rcp_model.specs.Node.{IsLeast}
@@ -115,14 +114,6 @@ walk_nodes_more g k t old new node e n p =
     p ∙ ap (λ (xs : List Node). xs ++ node ∷ []) e ∙ ap (λ (x : Node). walk_nodes g k t ++ x ∷ []) n
     ∙ sym (map-range_with_len_more (walk_node g k) 0 t t (omega arith))
 
-pub walk_some_at : (g : Graph) (k i : ℕ) (node : Node) → has_level_node g k ≡ true → i < k → node ≡ walk_node g k i → any_below (node_count g) (goes g (k - 1 - i) node) ≡ true
-walk_some_at g k i node h l e =
-    let a : k - 1 - i ≡ k - suc i = omega arith in
-    ap (λ (x : ℕ). any_below (node_count g) (goes g x node)) a ∙ ap (λ (x : Node). any_below (node_count g) (goes g (k - suc i) x)) e ∙ walk_some g k h i l
-
-pub walk_unvoted : (g : Graph) (k i : ℕ) (node : Node) → has_level_node g k ≡ true → i ≤ k → node ≡ walk_node g k i → IsUnvoted g node
-walk_unvoted g k i node h l e = level_unvoted g (k - i) node (ap (level g (k - i)) e ∙ walk_level g k h i l)
-
 pub walk_answer : (g : Graph) (k t : ℕ) (xs ys : List Node) → has_level_node g k ≡ true → t ≡ k → xs ≡ walk_nodes g k (t + 1) → ys ≡ reverse xs → IsWitnessWalkOf g (k + 1) ys
 walk_answer g k t xs ys h e x y =
     let one : t + 1 ≡ suc k = omega arith in
@@ -132,6 +123,3 @@ walk_answer g k t xs ys h e x y =
       long = ap length all ∙ length-reverse (walk_nodes g k (suc k)) ∙ long ∙ omega arith;
       walk = subst (IsWitnessWalk g) (sym all) (walk_is_witness g k h);
     }
-
-pub rows_fit : (i k n m : ℕ) → i ≤ k → k * n ≤ m → i * n ≤ m
-rows_fit i k n m h l = let p = mul-le-mul_right n h in omega arith

@@ -30,10 +30,6 @@ level g (suc k) n =
 abbrev pub goes : Graph → ℕ → Node → ℕ → Bool
 goes g k n v = steps_to g (node_of g v) n && level g k (node_of g v)
 
--- some node does
-abbrev pub has_node_before : Graph → ℕ → Node → Bool
-has_node_before g k n = any_below (node_count g) (goes g k n)
-
 -- the least node that does
 abbrev pub node_before : Graph → ℕ → Node → Node
 node_before g k n = node_of g (first_below (node_count g) (goes g k n))

@@ -67,13 +67,6 @@ ends_of is a b reading (Ok y) P found all = does_also a b reading (TellsEnd is (
 ends_of is a b reading (Err (stop.Refused why)) P found all = does_also a b reading (TellsEnd is (Err (stop.Refused why))) P all found
 ends_of is a b reading (Err (stop.Unreadable word)) P found all = does_also a b reading (TellsEnd is (Err (stop.Unreadable word))) P all found
 
--- what was found stands for something
-pub found_some : {X Y : Type 0} (is : Y → X → Type 0) (a b : FolderState) (reading : Reading X) (y : Y) → Finds is a b reading (Ok y) → (x : X) × is y x
-found_some is a b (Reading.gives (Ok x)) y found = (x, found)
-found_some is a b (Reading.gives (Err why)) y found = absurd found
-found_some is a b (Reading.reads name next) y (inl unread) = absurd unread.1
-found_some is a b (Reading.reads name next) y (inr read) = found_some is a b (next read.0) y read.2
-
 -- after a find the next reading goes on
 pub finds_then : {X Y X' Y' : Type 0} (is : Y → X → Type 0) (js : Y' → X' → Type 0) (a b c : FolderState)
     (first : Reading X) (next : X → Reading X') (y : Y) (answer : Result Y' Stop)

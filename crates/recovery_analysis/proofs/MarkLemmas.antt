@@ -1,10 +1,10 @@
 -- Levels as words, and the least node from which a node of a level steps to a node.
-use Rattle.std.proofs.Common.{length-append, ◌≡◌, ℕ, ◌+◌, ◌*◌, ◌/◌, ◌%◌, ◌<◌, ◌≤◌, suc, Bool, true, false, ◌&&◌, eqb, List, [], ◌∷◌, ◌++◌, length, get_or, inl, inr, sym, ◌∙◌, ap, subst, arith, refl}
+use Rattle.std.proofs.Common.{◌≡◌, ℕ, ◌+◌, ◌*◌, ◌/◌, ◌%◌, ◌<◌, ◌≤◌, suc, Bool, true, false, ◌&&◌, eqb, List, [], length, get_or, inl, inr, sym, ◌∙◌, ap, subst, arith, refl}
 use Rattle.std.proofs.lemmas.Bool.{cases_lt, cases_eq, cases_Bool, both_ways, and_parts, eq-eqb, ne_eqb, cond-true, cond-false, false_from_ne_true}
 use Rattle.std.proofs.lemmas.Nat.{mul-add-lt, div_below}
 use Rattle.std.proofs.Math.Bool.{and_comm}
 use Rattle.std.proofs.Math.Nat.{mul-le-mul_right, mod-lt, mod-eq_of_lt, mod_self}
-use Rattle.std.proofs.lemmas.List.{get_or_append_left, get_or_at, get_or_read}
+use Rattle.std.proofs.lemmas.List.{get_or_read}
 use Rattle.std.specs.Prelude.{bit_and}
 use Rattle.rcp_base.specs.Bits.{has_bit}
 use Rattle.rcp_base.specs.Search.{any_below, first_below, IsFirst}
@@ -214,21 +214,6 @@ least_found g k s c words l empty first is =
 pub none_found_at : (g : Graph) (k slots : ℕ) (words : List ℕ) → g.slots ≡ slots → AreEmptyBelow slots words → IsLevel g k words
     → has_level_node g k ≡ false
 none_found_at g k slots words same empty is = no_node_marked g k (λ s c l. sym (is s c l) ∙ empty s c (omega arith))
-
--- one level more
-pub levels_push : (g : Graph) (words new : List (List ℕ)) (next : List ℕ) → AreLevels g words → new ≡ words ++ next ∷ []
-    → IsLevel g (length words) next → AreLevels g new
-levels_push g words new next are e is k l =
-    let more : length new ≡ length words + 1 = ap length e ∙ length-append words (next ∷ []) in
-    elim (cases_lt k (length words)) [
-      | inl a ↦
-          subst (IsLevel g k)
-          (sym (ap (λ (xs : List (List ℕ)). get_or xs k []) e ∙ get_or_append_left words (next ∷ []) [] k a)) (are k a)
-      | inr a ↦
-          let here : k ≡ length words = omega arith in
-          subst (IsLevel g k) (sym (ap (λ (xs : List (List ℕ)). get_or xs k []) e ∙ get_or_at words next [] [] k (sym here)))
-          (subst (λ (x : ℕ). IsLevel g x next) (sym here) is)
-    ]
 
 -- the bits of a word are the cells that feed the node's cell
 abbrev AreFeeding : Graph → Node → ℕ → Type 0

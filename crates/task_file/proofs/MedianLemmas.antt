@@ -1,15 +1,13 @@
 -- The numbers of the cells that the median votes.
 -- This project's own.
-use Rattle.std.proofs.Common.{◌≡◌, ℕ, ◌+◌, ◌<◌, ◌≤◌, Bool, true, false, List, [], ◌∷◌, ◌++◌, length, get_or, map, drop, refl, sym, ap, ◌∙◌, arith, append_assoc}
+use Rattle.std.proofs.Common.{◌≡◌, ℕ, ◌+◌, ◌<◌, ◌≤◌, Bool, true, false, List, [], ◌∷◌, length, arith}
 use Rattle.std.specs.Prelude.{All, AllPairs, if◌then◌else◌}
-use Rattle.std.proofs.lemmas.List.{drop_more}
 use Rattle.std.proofs.lemmas.List.Elements.{All-nil, All-cons, All-weaker}
 use Rattle.std.proofs.lemmas.List.Kept.{AllPairs-cons}
 use Rattle.rcp_model.specs.Plan.{AreMedians}
 use Rattle.task_file.specs.declared.sections.RawVariable as code
 use Rattle.task_file.specs.Sections.{RawVariable}
 use Rattle.task_file.specs.TaskFile.{medians_from}
-use Rattle.task_file.specs.inner.SectionViews.{variable_view}
 
 -- numbers from i on, below n, that rise
 record RiseFrom (i n : ℕ) (numbers : List ℕ) : Type 0 where
@@ -55,27 +53,3 @@ pub are_medians : (raws : List RawVariable) (cells : ℕ) → length raws ≡ ce
 are_medians raws cells counted =
     let rise = medians_rise 0 cells raws (omega arith) in
     record { there = rise.below; rising = rise.rising }
-
--- the first of the cells that are left
-medians_left : (cells : List code.RawVariable) (i : ℕ) (d : code.RawVariable) → i < length cells
-    → medians_from i (map variable_view (drop i cells))
-    ≡ (if (get_or cells i d).median then i ∷ medians_from (i + 1) (map variable_view (drop (i + 1) cells))
-    else medians_from (i + 1) (map variable_view (drop (i + 1) cells)))
-medians_left cells i d within = ap (λ left. medians_from i (map variable_view left)) (drop_more cells i d within)
-
--- one cell is passed that the median votes
-pub median_more : (cells : List code.RawVariable) (i : ℕ) (d : code.RawVariable) (so_far whole : List ℕ) → i < length cells
-    → (get_or cells i d).median ≡ true → so_far ++ medians_from i (map variable_view (drop i cells)) ≡ whole
-    → (so_far ++ i ∷ []) ++ medians_from (i + 1) (map variable_view (drop (i + 1) cells)) ≡ whole
-median_more cells i d so_far whole within is on =
-    let rest = medians_from (i + 1) (map variable_view (drop (i + 1) cells)) in
-    append_assoc so_far (i ∷ []) rest
-    ∙ (ap (λ left. so_far ++ left) (sym (medians_left cells i d within ∙ ap (λ m. if m then i ∷ rest else rest) is)) ∙ on)
-
--- one is passed that it does not vote
-pub median_passed : (cells : List code.RawVariable) (i : ℕ) (d : code.RawVariable) (so_far whole : List ℕ) → i < length cells
-    → (get_or cells i d).median ≡ false → so_far ++ medians_from i (map variable_view (drop i cells)) ≡ whole
-    → so_far ++ medians_from (i + 1) (map variable_view (drop (i + 1) cells)) ≡ whole
-median_passed cells i d so_far whole within is on =
-    let rest = medians_from (i + 1) (map variable_view (drop (i + 1) cells)) in
-    ap (λ left. so_far ++ left) (sym (medians_left cells i d within ∙ ap (λ m. if m then i ∷ rest else rest) is)) ∙ on

@@ -5,7 +5,7 @@ use Rattle.task_lang.specs.declared.token.Token.{Token}
 use Rattle.task_lang.specs.declared.token.Token.TheVariants as token
 use Rattle.task_lang.specs.Printing.{Printed, placed, leaf, call, infix_text}
 use Rattle.task_lang.specs.Signs.{sign_of, level_of, left_place, is_call}
-use Rattle.task_lang.specs.PrintedTokens.{PrintedTokens, placed_tokens, leaf_token, call_tokens, infix_tokens}
+use Rattle.task_lang.proofs.PrintedTokens.{PrintedTokens, placed_tokens, leaf_token, call_tokens, infix_tokens}
 use Rattle.task_lang.proofs.Spelling.{Spells, SpellsAlways, always_spelled, always_then, between, then_always, infix_spelled, open_spelled, close_spelled, comma_spelled, minus_spelled, not_spelled}
 
 -- what is printed has these tokens, and not many more bytes than were read, which were so many

@@ -8,7 +8,7 @@ use Rattle.task_lang.specs.declared.token.Token.TheVariants as token
 use Rattle.task_lang.specs.Words.{Scope, named_by, leaf_of}
 use Rattle.rcp_base.specs.Answers.{place_in}
 use Rattle.task_lang.specs.NameFaults.{has_name, is_in_scope}
-use Rattle.task_lang.specs.PrintedTokens.{leaf_token, printed_tokens}
+use Rattle.task_lang.proofs.PrintedTokens.{leaf_token, printed_tokens}
 use Rattle.task_lang.proofs.PrintingSteps.{tokens-number}
 use Rattle.task_lang.proofs.NamingLemmas.{GoesOn, place_in_front, IsNamed, unknown, known, name_printed}
 

@@ -1,4 +1,5 @@
 mod TokenLemmas
+mod PrintedTokens
 mod LexemeLemmas
 mod ReadingLaws
 mod Combining

@@ -15,7 +15,7 @@ use Rattle.task_lang.specs.Words.{Scope, stand_in, first_of, named_by}
 use Rattle.rcp_base.specs.Answers.{place_in}
 use Rattle.task_lang.specs.NameFaults.{has_name, is_in_scope}
 use Rattle.task_lang.specs.Printing.{leaf, name_at, printed}
-use Rattle.task_lang.specs.PrintedTokens.{leaf_token, printed_tokens}
+use Rattle.task_lang.proofs.PrintedTokens.{leaf_token, printed_tokens}
 use Rattle.task_lang.proofs.PrintingSteps.{printed-sensor, printed-cell, printed-let, tokens-sensor, tokens-cell, tokens-let}
 
 -- the same sensors and cells, and lets that go on

@@ -11,7 +11,7 @@ use Rattle.task_lang.specs.declared.token.Form.TheVariants as form
 use Rattle.task_lang.specs.Words.{Scope, leaf_of}
 use Rattle.task_lang.specs.Forms.{parts_of_form}
 use Rattle.task_lang.specs.Rules.{one, more, single, pair, plain, prefixed_by, leaf, within, enclosed_by, prim_rule, unary_rule, product_rule, sum_rule, comparison_rule, inv_rule, conj_rule, expr_rule}
-use Rattle.task_lang.specs.PrintedTokens.{PrintedTokens, placed_tokens, sign_token, leaf_token, call_tokens, two_tokens, printed_tokens, expr_tokens}
+use Rattle.task_lang.proofs.PrintedTokens.{PrintedTokens, placed_tokens, sign_token, leaf_token, call_tokens, two_tokens, printed_tokens, expr_tokens}
 use Rattle.task_lang.proofs.LevelRules.{rule_at, looser, deeper}
 use Rattle.task_lang.proofs.TreeLemmas.{FormsKeep, form_holds, sequence_holds}
 use Rattle.task_lang.proofs.PrintingSteps.{tokens-neg, tokens-not, tokens-abs, tokens-two, tokens-clamp, tokens-if}

@@ -8,7 +8,7 @@ use Rattle.task_lang.specs.declared.token.Token.TheVariants as token
 use Rattle.task_lang.specs.Words.{or_op, and_op, comparison_op, sum_op, product_op}
 use Rattle.task_lang.specs.Forms.{one_argument, two_arguments, three_arguments}
 use Rattle.task_lang.specs.Rules.{Sequence}
-use Rattle.task_lang.specs.PrintedTokens.{PrintedTokens, placed_tokens, sign_token, two_tokens}
+use Rattle.task_lang.proofs.PrintedTokens.{PrintedTokens, placed_tokens, sign_token, two_tokens}
 
 module _ (Inner : List Token → Expr → Type 0) where
   pub one_listed : (front : List Token) (a : Expr) → Inner front a → Sequence Inner one_argument (token.Open ∷ front ++ token.Close ∷ []) (a ∷ [])

@@ -12,7 +12,7 @@ use Rattle.task_lang.specs.declared.token.Token.TheVariants as token
 use Rattle.task_lang.specs.Words.{Scope, leaf_of}
 use Rattle.task_lang.specs.Rules.{enclosed_by, expr_rule}
 use Rattle.task_lang.specs.Signs.{level_of, left_place, is_call}
-use Rattle.task_lang.specs.PrintedTokens.{PrintedTokens, placed_tokens, sign_token, listed_tokens, leaf_token, call_tokens, infix_tokens, two_tokens, printed_tokens, expr_tokens}
+use Rattle.task_lang.proofs.PrintedTokens.{PrintedTokens, placed_tokens, sign_token, listed_tokens, leaf_token, call_tokens, infix_tokens, two_tokens, printed_tokens, expr_tokens}
 use Rattle.task_lang.proofs.TreeLemmas.{TreesKeep, tree_holds}
 use Rattle.task_lang.proofs.PrintingSteps.{tokens-neg, tokens-not, tokens-abs, tokens-two, tokens-clamp, tokens-if}
 use Rattle.task_lang.proofs.KeptLeaves.{stands_within, IsKeptLeaf}

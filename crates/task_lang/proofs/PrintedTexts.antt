@@ -10,7 +10,7 @@ use Rattle.rcp_base.specs.Answers.{place_in}
 use Rattle.task_lang.specs.Rules.{expr_rule, enclosed_by}
 use Rattle.task_lang.specs.Statements.{Statement, Let, Set, IsStatement, Many, last, next, scope_of, lets_behind, let_rows, set_rows}
 use Rattle.task_lang.specs.Printing.{let_names, let_text, set_text, task_text}
-use Rattle.task_lang.specs.PrintedTokens.{let_tokens, set_tokens, task_tokens}
+use Rattle.task_lang.proofs.PrintedTokens.{let_tokens, set_tokens, task_tokens}
 use Rattle.task_lang.specs.ReadBack.{IsReadAs}
 use Rattle.task_lang.proofs.TokenSizes.{sizes_of, sizes_of-append, AllFine, fine_front, fine_back, tokens_are_fine, tokens_are_short}
 use Rattle.task_lang.proofs.RowTexts.{RowsSpell, rows_then, rows_read, bytes_of, bytes_of-append, spaced_short}

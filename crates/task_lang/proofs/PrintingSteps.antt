@@ -8,7 +8,7 @@ use Rattle.rcp_model.specs.declared.expr.Op.{Op}
 use Rattle.task_lang.specs.declared.token.Token.TheVariants as token
 use Rattle.task_lang.specs.Words.{Scope}
 use Rattle.task_lang.specs.Printing.{placed, leaf, call, two, name_at, printed}
-use Rattle.task_lang.specs.PrintedTokens.{placed_tokens, leaf_token, call_tokens, two_tokens, printed_tokens}
+use Rattle.task_lang.proofs.PrintedTokens.{placed_tokens, leaf_token, call_tokens, two_tokens, printed_tokens}
 
 pub printed-number : (scope : Scope) (n : ℤ) → printed scope (expr.Number n) ≡ leaf (signed_decimal n)
 printed-number scope n = search (rules, the_lemmas)

@@ -4,20 +4,18 @@ use Rattle.rcp_model.specs.declared.expr.Expr.{Expr}
 use Rattle.rcp_model.specs.declared.expr.Expr.TheVariants as expr
 use Rattle.rcp_model.specs.declared.expr.Op.{Op}
 use Rattle.task_lang.specs.declared.token.Token.{Token}
-use Rattle.task_lang.specs.declared.token.Form.{Form}
 use Rattle.task_lang.specs.declared.reader.Level.{Level}
 use Rattle.task_lang.specs.declared.reader.ReadFault.{ReadFault}
 use Rattle.task_lang.specs.declared.reader.ReadFault.TheVariants as fault
 use Rattle.task_lang.specs.Faults.{Answers}
 use Rattle.task_lang.proofs.FaultLemmas.{expressions_answer}
 use Rattle.task_lang.specs.declared.reader.Level.TheVariants as level
-use Rattle.task_lang.specs.Words.{Scope, leaf_of, or_op, and_op, comparison_op, sum_op, product_op}
-use Rattle.task_lang.specs.Forms.{form_of_token}
+use Rattle.task_lang.specs.Words.{Scope, or_op, and_op, comparison_op, sum_op, product_op}
 use Rattle.task_lang.specs.Rules.{enclosed_by, prim_rule, unary_rule, product_rule, sum_rule, comparison_rule, inv_rule, conj_rule, expr_rule}
 use Rattle.rcp_base.specs.Answers.{◌>>=◌}
-use Rattle.task_lang.specs.ReaderParts.{choose, Reader, Read, enclosed, made, chained, onward, compared, prefixed}
-use Rattle.task_lang.specs.Reader.{prim, formed, whole, readers, prim_reader, unary_reader, product_reader, sum_reader, comparison_reader, inv_reader, conj_reader, expr_reader}
-use Rattle.task_lang.specs.inner.Levels.{Follows, IsRead, level_reader, inner_reader, below, operator_at, IsChain, HasPrefix, is_prefix, with_prefix}
+use Rattle.task_lang.specs.ReaderParts.{Reader, Read, enclosed, made, chained, onward, compared, prefixed}
+use Rattle.task_lang.specs.Reader.{prim, whole, readers, prim_reader, unary_reader, product_reader, sum_reader, comparison_reader, inv_reader, conj_reader, expr_reader}
+use Rattle.task_lang.specs.inner.Levels.{Follows, IsReadResult, level_reader, inner_reader, below, operator_at, IsChain, HasPrefix, is_prefix, with_prefix}
 use Rattle.task_lang.proofs.ReadingLaws.{Reads, SoundAt, Lawful}
 use Rattle.task_lang.proofs.Combining.{bound-ok}
 use Rattle.task_lang.proofs.Chains.{onward-some}
@@ -143,16 +141,6 @@ module _ (is : Token → Bool) (make : Expr → Expr) (read : Reader Expr) where
       ∙ (ap (λ inner. enclosed inner (λ q us. q us >>= made make) (length tokens) behind) (inner_reader-less at scope n some)
       ∙ ap (λ y. y >>= made make) reads)
 
--- a form within one less
-pub enclosing : (scope : Scope) (n : ℕ) (tokens behind : List Token) (token : Token) (form : Form) → tokens ≡ token ∷ behind → None ≡ leaf_of scope token → Some form ≡ form_of_token token → n ≢ 0
-    → formed form (level_reader level.Or scope (n - 1)) behind ≡ prim scope (inner_reader level.Or scope n) tokens
-enclosing scope n tokens behind token form cut no_leaf is some =
-    let inner = inner_reader level.Or scope n in
-    let step : prim scope inner (token ∷ behind) ≡ enclosed inner (formed form) (suc (length behind)) behind =
-    ap (λ found. choose found (choose (form_of_token token) (Err (suc (length behind))) (λ form. enclosed inner (formed form) (suc (length behind)) behind)) (λ a. Ok (a, behind))) (sym no_leaf)
-    ∙ ap (λ found. choose found (Err (suc (length behind))) (λ form. enclosed inner (formed form) (suc (length behind)) behind)) (sym is) in
-    sym (ap (prim scope inner) cut ∙ (step ∙ ap (λ inner. enclosed inner (formed form) (suc (length behind)) behind) (inner_reader-less level.Or scope n some)))
-
 -- the levels are made of those below
 pub level_reader-chain : (at : Level) (scope : Scope) (n : ℕ) → IsChain at → chained (operator_at at) (level_reader (below at) scope n) ≡ level_reader at scope n
 unfolding level_reader
@@ -211,13 +199,13 @@ at_prefix view result at scope n tokens has =
 
 -- what follows the reader of whole lists is right by the grammar
 scope_read : (scope : Scope) (n : ℕ) (tokens : List Token) (result : Result Expr ReadFault)
-    → Follows (λ (tree : Expr). tree) result (whole (level_reader level.Or scope n) tokens) → IsRead (expr_rule scope (enclosed_by scope n)) tokens result
+    → Follows (λ (tree : Expr). tree) result (whole (level_reader level.Or scope n) tokens) → IsReadResult (expr_rule scope (enclosed_by scope n)) tokens result
 unfolding level_reader
 scope_read scope n tokens (Ok tree) is = subst (Answers (expr_rule scope (enclosed_by scope n)) tokens) is (expressions_answer n scope tokens)
 scope_read scope n tokens (Err fault.Memory) is = tt
 scope_read scope n tokens (Err (fault.At left)) is = subst (Answers (expr_rule scope (enclosed_by scope n)) tokens) is (expressions_answer n scope tokens)
 
 pub expr_read : (names scope : Scope) (n : ℕ) (tokens : List Token) (result : Result Expr ReadFault) → names ≡ scope
-    → Follows (λ (tree : Expr). tree) result (whole (level_reader level.Or names n) tokens) → IsRead (expr_rule scope (enclosed_by scope n)) tokens result
+    → Follows (λ (tree : Expr). tree) result (whole (level_reader level.Or names n) tokens) → IsReadResult (expr_rule scope (enclosed_by scope n)) tokens result
 expr_read names scope n tokens result same is =
     scope_read scope n tokens result (subst (λ scope. Follows (λ (tree : Expr). tree) result (whole (level_reader level.Or scope n) tokens)) same is)

@@ -8,7 +8,7 @@ use Rattle.task_lang.specs.Statements.{Statement, Let, Set, IsStatement, Many, l
 use Rattle.task_lang.specs.NameFaults.{has_name}
 use Rattle.task_lang.specs.RightNames.{IsKnownExpr, Earlier, IsRightTarget, sets_behind, earlier_behind, IsRightStatement}
 use Rattle.task_lang.specs.Printing.{let_names}
-use Rattle.task_lang.specs.PrintedTokens.{expr_tokens}
+use Rattle.task_lang.proofs.PrintedTokens.{expr_tokens}
 use Rattle.task_lang.proofs.NamingLemmas.{GoesOn}
 use Rattle.task_lang.proofs.KeptLeaves.{IsKeptLeaf, leaf_kept}
 use Rattle.task_lang.proofs.PrintedExpressions.{expr_printed}

@@ -17,7 +17,7 @@ use Rattle.task_lang.specs.Reader.{alone, expr_reader, readers}
 use Rattle.task_lang.specs.Faults.{Answers}
 use Rattle.task_lang.specs.Statements.{Statement, Let, Set, IsStatement, scope_of, lets_behind, let_rows, set_rows, task_with, statements_rule}
 use Rattle.task_lang.specs.StatementReaders.{statement_reader, then_more, many, read_task}
-use Rattle.task_lang.specs.inner.Levels.{Follows, Fails, IsRead, level_reader}
+use Rattle.task_lang.specs.inner.Levels.{Follows, Fails, IsReadResult, level_reader}
 use Rattle.task_lang.specs.inner.Rows.{IsAdded}
 use Rattle.task_lang.proofs.ReadingLaws.{Lawful}
 use Rattle.task_lang.proofs.Sequences.{never}
@@ -174,7 +174,7 @@ module _ (n : ℕ) (sensors cells : List (List ℕ)) where
 
 -- what follows the reader of tasks is right by the grammar
 pub task_read : (n : ℕ) (sensors cells : List (List ℕ)) (name : List ℕ) (tokens : List Token) (result : Result Task ReadFault)
-    → Follows (λ (task : Task). task) result (read_task n sensors cells name tokens) → IsRead (MadeOf (task_with cells name) (statements_rule n sensors cells)) tokens result
+    → Follows (λ (task : Task). task) result (read_task n sensors cells name tokens) → IsReadResult (MadeOf (task_with cells name) (statements_rule n sensors cells)) tokens result
 task_read n sensors cells name tokens (Ok task) is =
     subst (Answers (MadeOf (task_with cells name) (statements_rule n sensors cells)) tokens) is (tasks_answer n sensors cells name tokens)
 task_read n sensors cells name tokens (Err fault.Memory) is = tt

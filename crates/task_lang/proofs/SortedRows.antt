@@ -9,7 +9,7 @@ use Rattle.rcp_base.specs.Answers.{place_in}
 use Rattle.task_lang.specs.Statements.{Statement, Let, Set, scope_of, let_rows, set_rows}
 use Rattle.task_lang.specs.NameFaults.{has_name}
 use Rattle.task_lang.specs.Printing.{name_at}
-use Rattle.task_lang.specs.PrintedTokens.{expr_tokens, let_tokens, set_tokens}
+use Rattle.task_lang.proofs.PrintedTokens.{expr_tokens, let_tokens, set_tokens}
 use Rattle.task_lang.proofs.NamingLemmas.{name_at_place}
 use Rattle.task_lang.proofs.RightStatements.{lets_of, sets_of, printed_statements, AreRight}
 

@@ -7,7 +7,7 @@ use Rattle.task_lang.specs.declared.token.Token.{Token}
 use Rattle.task_lang.specs.declared.token.Token.TheVariants as token
 use Rattle.task_lang.specs.Tokens.{token_of, tokens_of}
 use Rattle.task_lang.specs.Signs.{is_call, sign_of}
-use Rattle.task_lang.specs.PrintedTokens.{sign_token}
+use Rattle.task_lang.proofs.PrintedTokens.{sign_token}
 
 -- a word or a number before it ends there
 abbrev pub Ends : List ℕ → Type 0

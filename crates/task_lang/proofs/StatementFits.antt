@@ -14,7 +14,7 @@ use Rattle.rcp_base.specs.Answers.{place_in}
 use Rattle.task_lang.specs.Rules.{plain, prefixed_by}
 use Rattle.task_lang.specs.Statements.{Statement, Let, Set, IsNamed, named, IsStatement}
 use Rattle.task_lang.specs.Printing.{expr_text, name_at, printed, let_text, set_text}
-use Rattle.task_lang.specs.PrintedTokens.{printed_tokens, expr_tokens, let_tokens, set_tokens}
+use Rattle.task_lang.proofs.PrintedTokens.{printed_tokens, expr_tokens, let_tokens, set_tokens}
 use Rattle.task_lang.proofs.Spelling.{Ends, Spells, SpellsAlways, always_spelled, always_then, between, then_always, let_spelled, equal_spelled, assign_spelled, semicolon_spelled}
 use Rattle.task_lang.proofs.SpelledLeaves.{name_spelled}
 use Rattle.task_lang.proofs.TokenSizes.{sizes_of, sizes_of-append, IsFine, AllFine, fine_front}

@@ -15,7 +15,7 @@ use Rattle.task_lang.specs.StatementReaders.{statements_reader, read_task}
 use Rattle.task_lang.specs.NameFaults.{NameFault, IsUnknown, IsBadTarget, first_wrong_name}
 use Rattle.task_lang.specs.Answers.{IsAnswer}
 use Rattle.task_lang.specs.TextReaders.{byte_at, fault_of_syntax, fault_of_name, with_names, text_answer, read_expr, read_body}
-use Rattle.task_lang.specs.inner.Levels.{IsRead}
+use Rattle.task_lang.specs.inner.Levels.{IsReadResult}
 use Rattle.task_lang.specs.Readings.{TokensStandIn, ExpressionTextsAreRead, BodyTextsAreRead}
 use Rattle.task_lang.proofs.FaultLemmas.{expressions_read}
 use Rattle.task_lang.proofs.StatementLemmas.{statements_answer}
@@ -86,22 +86,22 @@ body_texts_read sensors cells name text =
 
 -- what the code answers of a text's tokens is what it answers of the text
 module _ {X : Type 0} (Permits : List Token → X → Type 0) (text : List ℕ) (tokens : List Token) (cut : tokens ≡ tokens_of text) where
-  syntax_answered : (found : Option (NameFault × ℕ)) (fault : ReadFault) → IsRead Permits tokens (Err fault) → IsAnswer Permits found text (Err (fault_of_syntax text fault))
+  syntax_answered : (found : Option (NameFault × ℕ)) (fault : ReadFault) → IsReadResult Permits tokens (Err fault) → IsAnswer Permits found text (Err (fault_of_syntax text fault))
   syntax_answered found fault.Memory is = tt
   syntax_answered found (fault.At left) is = text_answered Permits text found (Err left) (subst (λ list. Answers Permits list (Err left)) cut is)
 
-  pub fault_answered : (found : Option (NameFault × ℕ)) (fault : ReadFault) (answer : LangFault) → IsRead Permits tokens (Err fault) → answer ≡ fault_of_syntax text fault
+  pub fault_answered : (found : Option (NameFault × ℕ)) (fault : ReadFault) (answer : LangFault) → IsReadResult Permits tokens (Err fault) → answer ≡ fault_of_syntax text fault
       → IsAnswer Permits found text (Err answer)
   fault_answered found fault answer is same = subst (λ answer. IsAnswer Permits found text (Err answer)) (sym same) (syntax_answered found fault is)
 
-  names_scanned : (found : Option (NameFault × ℕ)) (tree : X) → IsRead Permits tokens (Ok tree) → IsAnswer Permits found text (with_names text tree found)
+  names_scanned : (found : Option (NameFault × ℕ)) (tree : X) → IsReadResult Permits tokens (Ok tree) → IsAnswer Permits found text (with_names text tree found)
   names_scanned found tree is = text_answered Permits text found (Ok tree) (subst (λ list. Answers Permits list (Ok tree)) cut is)
 
-  pub tree_answered : (found : Option (NameFault × ℕ)) (tree : X) → IsRead Permits tokens (Ok tree) → None ≡ found → IsAnswer Permits found text (Ok tree)
+  pub tree_answered : (found : Option (NameFault × ℕ)) (tree : X) → IsReadResult Permits tokens (Ok tree) → None ≡ found → IsAnswer Permits found text (Ok tree)
   tree_answered found tree is none =
       subst (λ found. IsAnswer Permits found text (Ok tree)) none (names_scanned None tree is)
 
-  pub name_answered : (found : Option (NameFault × ℕ)) (tree : X) (fault : NameFault) (left : ℕ) (answer : LangFault) → IsRead Permits tokens (Ok tree)
+  pub name_answered : (found : Option (NameFault × ℕ)) (tree : X) (fault : NameFault) (left : ℕ) (answer : LangFault) → IsReadResult Permits tokens (Ok tree)
       → Some (fault, left) ≡ found → answer ≡ fault_of_name text fault left → IsAnswer Permits found text (Err answer)
   name_answered found tree fault left answer is some same =
       subst (λ found. IsAnswer Permits found text (Err answer)) some

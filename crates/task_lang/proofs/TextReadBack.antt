@@ -8,7 +8,7 @@ use Rattle.task_lang.specs.Faults.{Answers}
 use Rattle.task_lang.specs.Statements.{IsBody, task_with, IsTask}
 use Rattle.task_lang.specs.StatementReaders.{statements_reader}
 use Rattle.task_lang.specs.NameFaults.{first_wrong_name}
-use Rattle.task_lang.specs.PrintedTokens.{task_tokens}
+use Rattle.task_lang.proofs.PrintedTokens.{task_tokens}
 use Rattle.task_lang.specs.ReadBack.{IsReadAs}
 use Rattle.task_lang.proofs.StatementLemmas.{bodies_read}
 use Rattle.task_lang.proofs.TokensReadBack.{tokens_read_back}

@@ -7,7 +7,7 @@ use Rattle.task_lang.specs.Statements.{Statement, Many, last, next, scope_of, Is
 use Rattle.task_lang.specs.NameFaults.{first_wrong_name}
 use Rattle.task_lang.specs.RightNames.{earlier_behind, IsRightStatement, IsRightBody}
 use Rattle.task_lang.specs.Printing.{let_names}
-use Rattle.task_lang.specs.PrintedTokens.{let_tokens, set_tokens, task_tokens}
+use Rattle.task_lang.proofs.PrintedTokens.{let_tokens, set_tokens, task_tokens}
 use Rattle.task_lang.proofs.NameScans.{body_names_scanned}
 use Rattle.task_lang.proofs.RightStatements.{lets_of, sets_of, printed_statements, AreRight, all_right, lets_first, some_printed, right_body}
 use Rattle.task_lang.proofs.SortedRows.{same_lets, same_sets, as_many, lets_printed, sets_printed}

@@ -11,7 +11,7 @@ use Rattle.task_lang.specs.declared.token.Token.TheVariants as token
 use Rattle.task_lang.specs.Words.{Scope}
 use Rattle.task_lang.specs.Printing.{Printed, placed, leaf, call, infix_text, printed}
 use Rattle.task_lang.specs.Signs.{sign_of, level_of, is_call}
-use Rattle.task_lang.specs.PrintedTokens.{PrintedTokens, placed_tokens, sign_token, leaf_token, call_tokens, infix_tokens, printed_tokens}
+use Rattle.task_lang.proofs.PrintedTokens.{PrintedTokens, placed_tokens, sign_token, leaf_token, call_tokens, infix_tokens, printed_tokens}
 use Rattle.task_lang.proofs.PrintingSteps.{printed-number, printed-neg, printed-not, printed-abs, printed-two, printed-clamp, printed-if, tokens-number, tokens-neg, tokens-not, tokens-abs, tokens-two, tokens-clamp, tokens-if}
 use Rattle.task_lang.proofs.Spelling.{abs_spelled, min_spelled, max_spelled, clamp_spelled, if_spelled}
 use Rattle.task_lang.proofs.SpelledLeaves.{name_spelled, number_spelled, name_is_word}

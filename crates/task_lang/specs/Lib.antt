@@ -13,7 +13,6 @@ pub mod TextReaders
 pub mod Readings
 pub mod Signs
 pub mod Printing
-pub mod PrintedTokens
 pub mod RightNames
 pub mod ReadBack
 pub mod PlanRules

@@ -7,7 +7,7 @@ ghost use Rattle.task_lang.specs.ReaderParts as parts;
 ghost use Rattle.task_lang.specs.declared.reader.Level.TheVariants as at;
 ghost use Rattle.task_lang.specs.Rules.{IsExpr};
 ghost use Rattle.task_lang.specs.Statements.{scope_of};
-ghost use Rattle.task_lang.specs.inner.Levels.{IsRead, Follows, IsChain, HasPrefix, level_reader, inner_reader, below, operator_at, is_prefix, with_prefix};
+ghost use Rattle.task_lang.specs.inner.Levels.{IsReadResult, Follows, IsChain, HasPrefix, level_reader, inner_reader, below, operator_at, is_prefix, with_prefix};
 ghost use Rattle.task_lang.specs.Words as words;
 
 use crate::names::Names;
@@ -419,7 +419,7 @@ pub fn expr_of(
 ) -> Result<Expr, ReadFault>
     requires sensors { length sensors.now ≤ 65536 }
     requires cells { length cells.now ≤ 65536 }
-    ensures { IsRead (IsExpr (scope_of sensors.now cells.now [])) tokens.now result }
+    ensures { IsReadResult (IsExpr (scope_of sensors.now cells.now [])) tokens.now result }
 {
     let names = Names::new(sensors, cells, &[]);
     whole_expr(alloc, &names, 64, tokens)

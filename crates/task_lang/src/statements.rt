@@ -3,7 +3,7 @@
 ghost use Rattle.std.specs.Prelude.{◌≡◌, ◌≤◌, [], length, unwrap_or, IfOk};
 ghost use Rattle.rcp_base.specs.Answers.{place_in};
 ghost use Rattle.task_lang.specs.declared.reader.Level.TheVariants as at;
-ghost use Rattle.task_lang.specs.inner.Levels.{Follows, IsRead, level_reader};
+ghost use Rattle.task_lang.specs.inner.Levels.{Follows, IsReadResult, level_reader};
 ghost use Rattle.task_lang.specs.inner.Rows.{IsAdded};
 ghost use Rattle.task_lang.specs.Statements as spec;
 ghost use Rattle.task_lang.specs.StatementReaders as readers;
@@ -73,7 +73,7 @@ pub fn task_of(
     requires tokens { length tokens.now ≤ 65536 }
     requires sensors { length sensors.now ≤ 65536 }
     requires cells { length cells.now ≤ 65536 }
-    ensures { IsRead (spec.IsTask sensors.now cells.now name) tokens.now result }
+    ensures { IsReadResult (spec.IsTask sensors.now cells.now name) tokens.now result }
 {
     task_at(alloc, name, 64, tokens, sensors, cells)
 }

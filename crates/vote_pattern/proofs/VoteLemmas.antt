@@ -43,14 +43,6 @@ none_in slots cells slot cell =
     let empty : has_bit (get_or (zeros slots) slot 0) cell ≡ false = ap (λ (w : ℕ). has_bit w cell) (zero_word slots slot) ∙ has_bit_zero cell in
     rw empty (and_false (ltb slot slots) (ltb cell cells))
 
-pub none_are_words : (slots cells : ℕ) → slots ≤ 32 → cells ≤ 64 → AreSlotWords (no_votes slots cells)
-none_are_words slots cells s c = record {
-  few_slots = s;
-  few_cells = c;
-  words = length-replicate slots 0;
-  none_past = λ slot cell h. ap (λ (w : ℕ). has_bit w cell) (zero_word slots slot) ∙ has_bit_zero cell;
-}
-
 -- the votes with another word at a slot
 abbrev pub with_word : Votes → ℕ → ℕ → Votes
 with_word votes slot word = record votes { words = set votes.words slot word }

@@ -83,7 +83,7 @@ Follows view (Ok x) read = read ≡ Ok (view x)
 Follows view (Err fault) read = Fails fault read
 
 -- what the code answers of all tokens is right by a grammar
-abbrev pub IsRead : {X : Type 0} → (List Token → X → Type 0) → List Token → Result X ReadFault → Type 0
-IsRead Permits tokens (Ok x) = Answers Permits tokens (Ok x)
-IsRead Permits tokens (Err fault.Memory) = ⊤
-IsRead Permits tokens (Err (fault.At left)) = Answers Permits tokens (Err left)
+abbrev pub IsReadResult : {X : Type 0} → (List Token → X → Type 0) → List Token → Result X ReadFault → Type 0
+IsReadResult Permits tokens (Ok x) = Answers Permits tokens (Ok x)
+IsReadResult Permits tokens (Err fault.Memory) = ⊤
+IsReadResult Permits tokens (Err (fault.At left)) = Answers Permits tokens (Err left)
