@@ -33,7 +33,7 @@ pub record CanRead (reader : Reader (Bor (List ℕ))) : Type 0 where
   pub flexible : reader.flexible ≡ true
   pub known : IsSome (bytes_left reader)
 
--- it can, unless memory was wanting
+-- it can, unless memory ran out
 abbrev pub CanReadOn : Reader (Bor (List ℕ)) → Type 0
 CanReadOn reader = has_failed reader ≡ false → CanRead reader
 
