@@ -1,2 +1,3 @@
 pub mod FrameFields
 pub mod Inputs
+pub mod Layer

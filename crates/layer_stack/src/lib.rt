@@ -5,7 +5,9 @@
 mod frame_in;
 mod health;
 mod inputs;
+mod layer;
 
 pub use frame_in::FrameIn;
 pub use health::healthy;
 pub use inputs::Inputs;
+pub use layer::Layer;
