@@ -1,2 +1,4 @@
 mod DriftLemmas
 mod MomentsLemmas
+pub mod HealthLaws
+mod WindowLemmas

@@ -3,6 +3,7 @@
 #![tactic(auto)]
 
 mod drift;
+pub mod laws;
 mod moments;
 mod rules;
 
