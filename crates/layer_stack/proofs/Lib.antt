@@ -1,1 +1,4 @@
 mod FrameLemmas
+mod LengthLemmas
+mod ReplicaLemmas
+mod RecoveryLemmas

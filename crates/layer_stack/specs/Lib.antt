@@ -1,3 +1,4 @@
 pub mod FrameFields
 pub mod Inputs
 pub mod Layer
+pub mod Recovery

@@ -5,6 +5,7 @@
 mod frame_in;
 mod health;
 mod inputs;
+pub mod laws;
 mod layer;
 
 pub use frame_in::FrameIn;

@@ -1,0 +1,20 @@
+//! What follows from the definition of the replicated system, for every plan and every past.
+//! After NASA TM-102716.
+ghost use Rattle.layer_stack.specs.Recovery.{ReplicasBeginIdeal, ReplicasRecover};
+
+use clock_model::laws::healthy_pairs_hear;
+use task_graph::laws::feeding_cells_decide;
+
+/// Before the first frame every replica holds what the single processor holds.
+pub fn replicas_begin_ideal()
+    ensures { ReplicasBeginIdeal }
+{}
+
+/// Under the guard each working replica holds what the single processor holds, whatever it held before, and each actuator vote
+/// is the command of the single processor.
+pub fn replicas_recover()
+    ensures { ReplicasRecover }
+{
+    feeding_cells_decide();
+    healthy_pairs_hear();
+}
