@@ -1,4 +1,6 @@
 mod FrameLemmas
+mod BeginningLemmas
 mod LengthLemmas
 mod ReplicaLemmas
 mod RecoveryLemmas
+mod RunLemmas

@@ -23,7 +23,7 @@ use Rattle.rcp_model.specs.Walk.{IsUnvoted, EndsWalk, HasNoWalk}
 use Rattle.rcp_model.proofs.LevelLaws.{ends_one, ends_push}
 use Rattle.clock_model.specs.Laws.{HealthyPairsHear}
 use Rattle.task_graph.specs.Laws.{Agree, FeedingCellsDecide}
-use Rattle.layer_stack.specs.Recovery.{VotesAreIdeal, ReplicasBeginIdeal, ReplicasRecover}
+use Rattle.layer_stack.specs.Recovery.{VotesAreIdeal, ReplicasRecover}
 use Rattle.layer_stack.proofs.LengthLemmas.{length-cells_after_slot}
 use Rattle.layer_stack.proofs.ReplicaLemmas.{MostHeld, slot_after, cell_after, cell_voted, cell_unvoted, command_held}
 
@@ -141,8 +141,3 @@ recovers decide hear plan (suc l) past rules some none guard = record {
   replicas = λ p lt h. is_ideal plan past l p none (close decide hear plan rules l none past guard l p lt h);
   votes = votes_are_ideal decide hear plan rules l none past guard;
 }
-
--- before the first frame
-pub begins : ReplicasBeginIdeal
-unfolding initial_state
-begins plan replica = same_state _ _ _ _ (sym (zero-mod (slot_count plan))) refl

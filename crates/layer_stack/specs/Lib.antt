@@ -1,4 +1,6 @@
+pub mod Beginning
 pub mod FrameFields
 pub mod Inputs
 pub mod Layer
 pub mod Recovery
+pub mod Run

@@ -7,7 +7,7 @@ use Rattle.rcp_model.specs.History.{sensors_of}
 use Rattle.rcp_model.specs.Plan.{IsPlan}
 use Rattle.rcp_model.specs.PlanGraph.{graph_of_plan}
 use Rattle.rcp_model.specs.Slot.{actuator_at}
-use Rattle.rcp_model.specs.System.{SystemState, initial_state, state_after, actuator_vote}
+use Rattle.rcp_model.specs.System.{SystemState, state_after, actuator_vote}
 use Rattle.rcp_model.specs.Uniprocessor.{ideal_state, ideal_command}
 use Rattle.rcp_model.specs.Walk.{HasNoWalk}
 
@@ -29,11 +29,6 @@ VotesAreIdeal plan state (rows ∷ past) =
 pub record MatchesIdeal (plan : PlanParts) (recovery : ℕ) (state : SystemState) (past : List FrameRows) : Type 0 where
   pub replicas : WorkingReplicasAreIdeal plan recovery state past
   pub votes : VotesAreIdeal plan state past
-
--- before the first frame every replica holds what the single processor holds
-abbrev pub ReplicasBeginIdeal : Type 0
-ReplicasBeginIdeal =
-    (plan : PlanParts) (replica : ℕ) → (initial_state plan).replicas replica ≡ ideal_state plan []
 
 -- under the guard the system shows what the single processor does, where no unvoted walk is as long as the recovery length
 abbrev pub ReplicasRecover : Type 0

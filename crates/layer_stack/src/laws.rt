@@ -1,13 +1,15 @@
 //! What follows from the definition of the replicated system, for every plan and every past.
 //! After NASA TM-102716.
-ghost use Rattle.layer_stack.specs.Recovery.{ReplicasBeginIdeal, ReplicasRecover};
+ghost use Rattle.layer_stack.specs.Beginning.{EverySystemBeginsIdeal};
+ghost use Rattle.layer_stack.specs.Recovery.{ReplicasRecover};
 
 use clock_model::laws::healthy_pairs_hear;
 use task_graph::laws::feeding_cells_decide;
 
-/// Before the first frame every replica holds what the single processor holds.
-pub fn replicas_begin_ideal()
-    ensures { ReplicasBeginIdeal }
+/// Before the first frame every replica holds what the single processor holds, is working and not down, the guard holds, and no
+/// vote is there.
+pub fn every_system_begins_ideal()
+    ensures { EverySystemBeginsIdeal }
 {}
 
 /// Under the guard each working replica holds what the single processor holds, whatever it held before, and each actuator vote
