@@ -20,7 +20,8 @@ use Rattle.rcp_model.specs.History.{History, past_of}
 use Rattle.rcp_model.specs.System.{SystemState, end_of_frame, initial_state, next_state, state_after}
 use Rattle.layer_stack.specs.declared.run.Run.{Run}
 use Rattle.layer_stack.specs.Inputs.{IsHistoryOf, CanFill, sensors_after}
-use Rattle.layer_stack.specs.Run.{last_rows, streak_after, streaks_after, has_healthy_majority, AreStreaks, StandsFor, CanRun}
+use Rattle.layer_stack.specs.Run.{last_rows, StandsFor, CanRun}
+use Rattle.layer_stack.specs.Streaks.{streak_after, streaks_after, has_healthy_majority, AreStreaks}
 
 streak_bound : (n s : ℕ) (fit : Bool) → streak_after n s fit ≤ n + 1
 streak_bound n s true = omega arith

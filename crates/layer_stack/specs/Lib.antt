@@ -4,3 +4,4 @@ pub mod Inputs
 pub mod Layer
 pub mod Recovery
 pub mod Run
+pub mod Streaks

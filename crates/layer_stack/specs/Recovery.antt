@@ -26,7 +26,8 @@ VotesAreIdeal plan state (rows ∷ past) =
     ≡ Some (ideal_command plan (actuator_at plan actuator) rows.sensors (sensors_of past))
 
 -- after these frames the system shows what the single processor shows
-pub record MatchesIdeal (plan : PlanParts) (recovery : ℕ) (state : SystemState) (past : List FrameRows) : Type 0 where
+pub record MatchesIdeal (plan : PlanParts) (recovery : ℕ) (state : SystemState)
+    (past : List FrameRows) : Type 0 where
   pub replicas : WorkingReplicasAreIdeal plan recovery state past
   pub votes : VotesAreIdeal plan state past
 

@@ -94,7 +94,8 @@ impl<'p, L: Layer> Run<'p, L> {
     pub fn vote(&self, actuator: u32) -> Option<i64>
         requires stands { IsStanding L.is_at self.now }
         requires actuator { actuator < length self.now.plan.now.actuators }
-        ensures { (past : List FrameRows) → StandsFor L.is_at self.now past → let plan = self.now.plan.now in
+        ensures { (past : List FrameRows) → StandsFor L.is_at self.now past
+            → let plan = self.now.plan.now in
             result ≡ actuator_vote plan (state_after plan past) actuator }
     {
         voted_command(self.plan, &self.layer, actuator)

@@ -4,8 +4,8 @@ ghost use Rattle.std.specs.Prelude.{◌≡◌, ◌<◌, ◌≤◌, ◌+◌, ℕ,
 ghost use Rattle.rcp_base.specs.declared.TheConstants.{MAX_REPLICAS};
 ghost use Rattle.rcp_model.specs.FrameLimits.{IsFrameOf};
 ghost use Rattle.rcp_model.specs.Plan.{IsPlan};
-ghost use Rattle.layer_stack.specs.Run.{AreStreaks, streaks_after};
-ghost use Rattle.layer_stack.specs.Run as spec;
+ghost use Rattle.layer_stack.specs.Streaks.{AreStreaks, streaks_after};
+ghost use Rattle.layer_stack.specs.Streaks as spec;
 
 use crate::frame_in::FrameIn;
 use crate::health::healthy;
@@ -23,7 +23,7 @@ pub(crate) fn full_streaks(alloc: Global, plan: &Plan, recovery: u32) -> Result<
 }
 
 // One frame more: a healthy replica is counted up to one more than the recovery length, and another anew.
-#[tactic(auto, using(rcp_base::proofs::FillLaws::filled_all), unfolding(crate::specs::Run::streaks_after))]
+#[tactic(auto, using(rcp_base::proofs::FillLaws::filled_all), unfolding(crate::specs::Streaks::streaks_after))]
 pub(crate) fn count_frame(plan: &Plan, input: &FrameIn, recovery: u32, streaks: &mut Vec<u64>)
     requires rows { IsFrameOf plan.now input.now }
     requires size { length streaks.old.items ≡ plan.now.replicas }
@@ -50,7 +50,7 @@ fn streak_after(recovery: u32, streak: u64, is_healthy: bool) -> u64
 }
 
 // Whether more than half of the replicas have been healthy for more frames than the recovery length.
-#[tactic(auto, unfolding(crate::specs::Run::has_healthy_majority))]
+#[tactic(auto, unfolding(crate::specs::Streaks::has_healthy_majority))]
 pub(crate) fn has_healthy_majority(recovery: u32, streaks: &[u64]) -> bool
     requires { length streaks.now ≤ MAX_REPLICAS }
     ensures { result ≡ spec.has_healthy_majority recovery streaks.now }

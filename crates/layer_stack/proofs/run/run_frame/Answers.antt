@@ -1,7 +1,8 @@
 use Rattle.std.proofs.Common.{refl, sym, ap, subst, ◌∙◌, arith, ◌&&◌, length}
 use Rattle.std.proofs.lemmas.Option.{same_Some}
 use Rattle.rcp_model.specs.History.{past_of}
-use Rattle.layer_stack.specs.Run.{StandsFor, has_healthy_majority}
+use Rattle.layer_stack.specs.Run.{StandsFor}
+use Rattle.layer_stack.specs.Streaks.{has_healthy_majority}
 use Rattle.layer_stack.proofs.RunLemmas.{can_fill, few_done, frame_of, streaks_step, guard_step, past_more}
 use Rattle.layer_stack.proofs.run.run_frame.Goals as goal
 

@@ -1,5 +1,5 @@
 use Rattle.rcp_base.proofs.FillLaws.{filled_all}
-use Rattle.layer_stack.specs.Run.{streaks_after}
+use Rattle.layer_stack.specs.Streaks.{streaks_after}
 use Rattle.layer_stack.proofs.streaks.count_frame.Goals as goal
 
 pub returns : goal.returns

@@ -1,7 +1,7 @@
 use Rattle.std.proofs.Common.{ℕ, slice_index_or}
 use Rattle.rcp_model.specs.Health.{is_healthy}
 use Rattle.rcp_base.specs.Filling.{Filled}
-use Rattle.layer_stack.specs.Run as definition
+use Rattle.layer_stack.specs.Streaks as definition
 use Rattle.layer_stack.proofs.streaks.count_frame.Given as goal
 
 abbrev pub invariant-loop-replica : goal.invariant-loop-replica
