@@ -3,4 +3,5 @@ mod BeginningLemmas
 mod LengthLemmas
 mod ReplicaLemmas
 mod RecoveryLemmas
+mod AtFrameLemmas
 mod RunLemmas

@@ -3,7 +3,7 @@ use Rattle.std.proofs.Common.{◌≡◌, ◌↔◌, ℕ, zero, suc, ◌+◌, ◌
 use Rattle.std.specs.List.{range_with_len}
 use Rattle.std.proofs.lemmas.Bool.{and_parts, and_from, lt-ltb, ltb-true, le-leb}
 use Rattle.std.proofs.lemmas.Bool.Decides.{nat_tests}
-use Rattle.std.proofs.lemmas.List.{get_or-take, take_more, reverse-append, length-reverse, length-take-le, get_or-replicate, length-replicate}
+use Rattle.std.proofs.lemmas.List.{get_or-take, length-reverse, length-take-le, get_or-replicate, length-replicate}
 use Rattle.std.proofs.lemmas.List.Elements.{All-get_or}
 use Rattle.std.proofs.lemmas.Option.{get_or_from_slice_get, slice_get_within}
 use Rattle.rcp_base.specs.declared.TheConstants.{MAX_FRAMES}
@@ -18,6 +18,7 @@ use Rattle.rcp_model.specs.FrameRows.{FrameRows, no_rows}
 use Rattle.rcp_model.specs.Health.{is_healthy, is_healthy_for, healthy_count, MeetsGuard}
 use Rattle.rcp_model.specs.History.{History, past_of}
 use Rattle.rcp_model.specs.System.{SystemState, end_of_frame, initial_state, next_state, state_after}
+use Rattle.rcp_model.proofs.HistoryLaws.{past_more}
 use Rattle.layer_stack.specs.declared.run.Run.{Run}
 use Rattle.layer_stack.specs.Inputs.{IsHistoryOf, CanFill, sensors_after}
 use Rattle.layer_stack.specs.Run.{last_rows, StandsFor, CanRun}
@@ -75,10 +76,9 @@ guard_step plan bound past streaks rows ok new h before g = (
         (λ k lt. h.healthy k (suc bound) (omega (arith, lt, size)) (omega arith) ∙ (let e : k ≡ 0 + k = omega arith in ap (is_healthy_for plan (suc bound) (rows ∷ past)) e))
         ∙ ap (λ n. count_by (is_healthy_for plan (suc bound) (rows ∷ past)) (range_with_len 0 n)) size
 
-pub past_more : (history : History) (n : ℕ) (rows : FrameRows) → slice_get history n ≡ Some rows → past_of history (suc n) ≡ rows ∷ past_of history n
-past_more history n rows e =
-    let s : suc n ≡ n + 1 = omega arith in
-    rw (s, take_more history n rows (slice_get_within history n rows e), get_or_from_slice_get history n rows rows e) (reverse-append (take n history) (rows ∷ []))
+pub past_one_more : (history : History) (n : ℕ) (rows : FrameRows) → slice_get history n ≡ Some rows → past_of history (suc n) ≡ rows ∷ past_of history n
+past_one_more history n rows e =
+    past_more history n (slice_get_within history n rows e) ∙ ap (λ (r : FrameRows). r ∷ past_of history n) (get_or_from_slice_get history n rows _ e)
 
 pub length-past_of : (history : History) (n : ℕ) → n ≤ length history → length (past_of history n) ≡ n
 length-past_of history n h = length-reverse (take n history) ∙ length-take-le n history h

@@ -3,7 +3,7 @@ use Rattle.std.proofs.lemmas.Option.{same_Some}
 use Rattle.rcp_model.specs.History.{past_of}
 use Rattle.layer_stack.specs.Run.{StandsFor}
 use Rattle.layer_stack.specs.Streaks.{has_healthy_majority}
-use Rattle.layer_stack.proofs.RunLemmas.{can_fill, few_done, frame_of, streaks_step, guard_step, past_more}
+use Rattle.layer_stack.proofs.RunLemmas.{can_fill, few_done, frame_of, streaks_step, guard_step, past_one_more}
 use Rattle.layer_stack.proofs.run.run_frame.Goals as goal
 
 pub fill-requires : goal.fill-requires
@@ -33,7 +33,7 @@ returns-clause-stands g c = λ history tells can.
     let rows = c.fill.ensures.rows c.args.run.now.plan.now history tells (can_fill _ _ _ _ can) in
     let frame = frame_of _ history _ _ can.of_plan rows in
     let after = streaks_step c.args.run.now.plan.now c.args.run.now.length _ _ _ c.fill.new.input can.stands.streaks c.count_frame.ensures in
-    subst (StandsFor g.L.Layer.is_at _) (sym (past_more history _ _ rows) ∙ ap (past_of history) (sym c.fill.ensures.done)) (record {
+    subst (StandsFor g.L.Layer.is_at _) (sym (past_one_more history _ _ rows) ∙ ap (past_of history) (sym c.fill.ensures.done)) (record {
       rules = can.stands.rules;
       some = can.stands.some;
       at = c.frame.ensures.state c.args.run.now.plan.now _ can.stands.at frame;
