@@ -1,0 +1,6 @@
+pub mod Setting
+pub mod Places
+pub mod Rooms
+pub mod Ballots
+pub mod States
+pub mod Laws
