@@ -1,7 +1,6 @@
 //! A message.
 //! After NASA TM-104196.
-ghost use Rattle.std.specs.Prelude.{◌≡◌, ◌<◌, ◌≤◌, IfOk, length, replicate, None};
-ghost use Rattle.rcp_base.specs.declared.TheConstants.{MAX_CELLS};
+ghost use Rattle.std.specs.Prelude.{◌≡◌, ◌<◌, IfOk, length, replicate, None};
 ghost use Rattle.rcp_base.specs.Message.{value_in};
 ghost use Rattle.mailbox.specs.Message.{empty_message, with_slot, with_value};
 
@@ -12,17 +11,22 @@ use std::marker::Model;
 /// A slot, and a value or none for each cell.
 #[derive(Debug, Drop)]
 pub struct Message {
+    cells: u32,
     slot: u32,
+    // By cell.
     values: Vec<Option<i64>>,
 }
 
 impl Model for Message {
+    ghost use Rattle.std.specs.Prelude.{◌≡◌, length};
     ghost use Rattle.rcp_base.specs.Message.{Content};
     ghost use Rattle.mailbox.specs.Message.{content_in};
 
     ghost Value = { Content };
 
     ghost view = { content_in };
+
+    ghost invariant = { λ message. length message.values.items ≡ message.cells };
 }
 
 impl Message {
@@ -31,6 +35,7 @@ impl Message {
         ensures { IfOk result (λ message. message ≡ empty_message cells 0) }
     {
         Ok(Message {
+            cells,
             slot: 0,
             values: vec![in alloc; None; cells as usize]?,
         })
@@ -61,10 +66,9 @@ impl Message {
 
     /// How many cells there are.
     pub fn cells(&self) -> u32
-        requires { length self.now.values ≤ MAX_CELLS }
         ensures { result ≡ length self.now.values }
     {
-        self.values.len() as u32
+        self.cells
     }
 
     /// The slot that it names.
