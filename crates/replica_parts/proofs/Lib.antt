@@ -1,1 +1,7 @@
+mod RoomLemmas
 mod SettingLemmas
+mod PatternLemmas
+mod LetterLemmas
+mod BallotLemmas
+mod ComputingLemmas
+mod HoldingLemmas
