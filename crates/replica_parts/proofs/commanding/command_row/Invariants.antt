@@ -1,10 +1,10 @@
 use Rattle.frame_table.specs.Plan.{IsOf}
-use Rattle.rcp_model.specs.Ballot as model
 use Rattle.rcp_base.specs.Filling.{Filled}
 use Rattle.rcp_model.specs.Command.{command_of}
 use Rattle.rcp_model.specs.declared.plan.PlanParts.{PlanParts}
 use Rattle.replica_parts.specs.Ballots.{IsBallotOrNone}
 use Rattle.std.proofs.Common.{None, Option, length, ℕ, ◌≡◌}
+use Rattle.rcp_model.specs.Ballot as model
 use Rattle.replica_parts.proofs.commanding.command_row.Given as goal
 
 abbrev pub invariant-loop-actuator : goal.invariant-loop-actuator

@@ -2,12 +2,13 @@ use Rattle.rcp_base.proofs.FillLaws.{filled_all, filled_more}
 use Rattle.rcp_base.specs.Tables.{table}
 use Rattle.rcp_model.specs.System.{state_after_rows}
 use Rattle.rcp_model.specs.Uniprocessor.{ProcessorState}
+use Rattle.replica_parts.proofs.RoomLemmas.{each_set}
 use Rattle.replica_parts.specs.Ballots.{IsBallotOrNone}
+use Rattle.replica_parts.specs.Rooms.{HasCells}
 use Rattle.replica_parts.specs.States.{no_state, state_after_vote}
 use Rattle.replica_parts.specs.declared.ballot.Ballot.{Ballot}
-use Rattle.std.proofs.Common.{ap, arith, get_or, length, length-set, subst, sym, ℕ, ◌∙◌, ◌≡◌}
+use Rattle.std.proofs.Common.{ap, arith, get_or, subst, sym, ℕ, ◌∙◌}
 use Rattle.std.proofs.lemmas.List.{get_or_read}
-use Rattle.std.proofs.lemmas.List.Elements.{All-set}
 use Rattle.replica_parts.proofs.holding.hold_all.Goals as goal
 
 pub loop-replica-preserved : goal.loop-replica-preserved
@@ -18,9 +19,8 @@ loop-replica-preserved c = record {
       let one = subst (λ (x : Ballot). IsBallotOrNone plan.replicas x (voted c.loop-replica.replica)) (sym c.index-ballots-number.is) (b c.loop-replica.replica c.index-ballots-number.result (omega (arith, e, c.loop-replica-test.true))) in
       filled_more _ _ no_state _ _ c.loop-replica.replica _ f c.loop-replica-test.true
       (c.hold_one.ensures.held plan (voted c.loop-replica.replica) s one
-      ∙ ap (λ (h : ProcessorState). state_after_rows plan c.args.input.now c.loop-replica.replica (state_after_vote plan (voted c.loop-replica.replica) h)) (get_or_read c.loop-replica.held.items c.loop-replica.replica c.index_mut.result.now (omega (arith, c.loop-replica-test.true, c.loop-replica.invariant.size)) c.index_mut.ensures.value no_state ∙ f.rest c.loop-replica.replica (omega arith)));
-  cells = All-set (λ (one : ProcessorState). length one.cells ≡ c.args.setting.now.cells) c.loop-replica.held.items c.loop-replica.replica c.hold_one.new.held c.hold_one.ensures.cells c.loop-replica.invariant.cells;
-  size = length-set _ _ _ ∙ c.loop-replica.invariant.size;
+      ∙ ap (λ (h : ProcessorState). state_after_rows plan c.args.input.now c.loop-replica.replica (state_after_vote plan (voted c.loop-replica.replica) h)) (get_or_read c.loop-replica.held.items c.loop-replica.replica c.index_mut.result.now (omega (arith, c.loop-replica-test.true, c.loop-replica.invariant.cells.size)) c.index_mut.ensures.value no_state ∙ f.rest c.loop-replica.replica (omega arith)));
+  cells = each_set c.args.setting.now.replicas (HasCells c.args.setting.now) c.loop-replica.held.items c.loop-replica.replica c.hold_one.new.held c.loop-replica.invariant.cells c.hold_one.ensures.cells;
 }
 
 pub returns-clause-held : goal.returns-clause-held

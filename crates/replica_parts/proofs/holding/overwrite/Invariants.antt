@@ -6,5 +6,5 @@ use Rattle.replica_parts.proofs.holding.overwrite.Given as goal
 abbrev pub invariant-loop-cell : goal.invariant-loop-cell
 invariant-loop-cell l = record {
   slot : l.held.slot ≡ l.initial.held.slot;
-  cells : Filled l.input.cells (λ (c : ℕ). unwrap_or (cell_row l.input l.replica c) (get_or l.initial.held.cells c (pos 0))) (pos 0) l.initial.held.cells l.held.cells l.cell;
+  cells : Filled l.setting.cells (λ (c : ℕ). unwrap_or (cell_row l.input l.replica c) (get_or l.initial.held.cells c (pos 0))) (pos 0) l.initial.held.cells l.held.cells l.cell;
 }

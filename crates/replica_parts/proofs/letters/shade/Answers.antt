@@ -5,7 +5,7 @@ use Rattle.replica_parts.proofs.letters.shade.Goals as goal
 
 pub returns-clause-message : goal.returns-clause-message
 returns-clause-message c =
-    is_message_to c.args.input.now c.args.own.now c.args.sender c.args.receiver c.name_slot.new.message c.loop-cell.message c.loop-cell.cell
-    c.requires.own
-    (c.name_slot.ensures ∙ rw (c.copy_from.ensures, c.lieslot.ensures) refl)
-    c.loop-cell.invariant.slot c.loop-cell.invariant.values (omega (arith, c.loop-cell-test.false, c.cells-cell-end.ensures, ap (λ (m : Content). length m.values) (c.name_slot.ensures), ap (λ (m : Content). length m.values) c.copy_from.ensures, c.requires.own))
+    is_message_to c.args.input.now c.args.message.now c.args.from c.args.to c.name_slot.new.message c.loop-cell.message c.loop-cell.cell
+    c.requires.room
+    (c.name_slot.ensures ∙ rw c.lieslot.ensures refl)
+    c.loop-cell.invariant.slot c.loop-cell.invariant.values (omega (arith, c.loop-cell-test.false, c.cells-cell-end.ensures, ap (λ (m : Content). length m.values) (c.name_slot.ensures), c.requires.room))
