@@ -13,7 +13,7 @@ use Rattle.std.specs.Global.{Global}
 use Rattle.std.proofs.Common.{Vec, [], true, false, not, nat_lt, subst, set, ◌+◌, ◌≢◌, inl, inr, get_or-set_same, get_or-set_other}
 use Rattle.std.proofs.lemmas.Bool.{cases_lt}
 use Rattle.rcp_model.specs.Ballot as model
-use Rattle.std.proofs.lemmas.Bool.{and_right, and_from, cond-true, cond-false, lt-ltb}
+use Rattle.std.proofs.lemmas.Bool.{true≢false, and_right, and_from, cond-true, cond-false, lt-ltb}
 use Rattle.rcp_model.specs.FrameRows.{FrameRows, is_down}
 use Rattle.rcp_model.specs.Messages.{Letter, heard_message, is_voted}
 use Rattle.rcp_model.specs.Uniprocessor.{ProcessorState}
@@ -151,3 +151,11 @@ ballot_over plan votes slot computed place n e l t v = record {
   taken = t;
   cells = v ∙ ap (λ s. voted_cells plan votes s (message_at place.heard.items) computed) t;
 }
+
+-- what stands at a place of a ballot is what was heard
+pub heard_read : (replicas : ℕ) (place : Ballot) (voted : Option model.Ballot) (from : ℕ) (r : Heard) → IsBallotOrNone replicas place voted → place.up ≡ true
+    → from < replicas → r ≡ get_or place.heard.items from r → message_in r ≡ option_and_then (λ (ballot : model.Ballot). ballot.heard from) voted
+heard_read replicas place None from r b up lt is = absurd (true≢false (sym up ∙ b))
+heard_read replicas place (Some ballot) from r b up lt is =
+    let size : length place.heard.items ≡ replicas = sym (length-map place.heard.items message_in) ∙ ap length b.1.heard ∙ length-table replicas ballot.heard in
+    ap message_in is ∙ sym (message_at-is place.heard.items from r (omega (arith, lt, size))) ∙ heard_at replicas place.heard.items ballot.heard b.1.heard from lt

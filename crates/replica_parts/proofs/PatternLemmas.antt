@@ -44,3 +44,8 @@ module _ (plan : PlanParts) (votes : Votes) (rules : IsPlan plan) (v : IsPattern
 
 pub votes_alike : (plan : PlanParts) (votes : Votes) → IsPlan plan → IsPatternOf plan votes → ◌≡◌ {A = ℕ → ℕ → Bool} (is_in votes) (is_voted plan)
 votes_alike plan votes rules v = fun_ext (λ slot. fun_ext (λ cell. voted_alike plan votes rules v slot cell))
+
+-- no vote outside of the pattern
+pub not_in : (votes : Votes) (slot cell : ℕ) → (nat_lt slot votes.slots && nat_lt cell votes.cells) ≡ false → is_in votes slot cell ≡ false
+unfolding is_in
+not_in votes slot cell outside = and_left _ _ outside

@@ -31,7 +31,7 @@ impl Held {
     {
         Ok(Held {
             slot: 0,
-            cells: cells.iter().map(|cell| cell.initial).collect(alloc)?,
+            cells: initial_cells(alloc, cells)?,
         })
     }
 
@@ -89,6 +89,13 @@ impl Held {
         self.slot = other.slot;
         copy_cells(&mut self.cells, other.cells.as_slice());
     }
+}
+
+// The values of cells before the first frame.
+fn initial_cells(alloc: Global, cells: &[Variable]) -> Result<Vec<i64>, Memory>
+    ensures { IfOk result (λ values. values.items ≡ initial_values cells.now) }
+{
+    Ok(cells.iter().map(|cell| cell.initial).collect(alloc)?)
 }
 
 // Takes over the values of a list of the same length.

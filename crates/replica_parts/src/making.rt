@@ -1,6 +1,6 @@
 //! The places that a layer needs, made once.
 //! This project's own.
-ghost use Rattle.std.specs.Prelude.{◌≡◌, None, IfOk, length};
+ghost use Rattle.std.specs.Prelude.{◌≡◌, None, IfOk, length, replicate};
 ghost use Rattle.rcp_base.specs.Tables.{table};
 ghost use Rattle.rcp_model.specs.declared.plan.PlanParts.{PlanParts};
 ghost use Rattle.rcp_model.specs.Plan.{IsPlan};
@@ -35,6 +35,8 @@ pub fn initial_states(alloc: Global, plan: &Plan) -> Result<Vec<Held>, Memory>
 fn states_of(alloc: Global, parts: &PlanParts) -> Result<Vec<Held>, Memory>
     ensures held { IfOk result (λ held.
         held.items ≡ table parts.now.replicas (initial_state parts.now).replicas) }
+    ensures room { IfOk result (λ held. (setting : Setting) → IsSettingOf parts.now setting
+        → AreStates setting held.items) }
 {
     let mut held = Vec::new(alloc);
     for _replica in 0..parts.replicas {
@@ -96,8 +98,7 @@ pub fn ballots(alloc: Global, setting: &Setting) -> Result<Vec<Ballot>, Memory>
 
 // Places for the commands of one replica, without one.
 fn command_row(alloc: Global, setting: &Setting) -> Result<Vec<Option<i64>>, Memory>
-    ensures { IfOk result (λ row.
-        row.items ≡ table setting.now.actuators (λ actuator. None)) }
+    ensures { IfOk result (λ row. row.items ≡ replicate setting.now.actuators None) }
 {
     Ok(vec![in alloc; None; setting.actuators as usize]?)
 }
