@@ -15,7 +15,7 @@ use Rattle.std.proofs.lemmas.Bool.{cases_lt}
 use Rattle.rcp_model.specs.Ballot as model
 use Rattle.std.proofs.lemmas.Bool.{true≢false, and_right, and_from, cond-true, cond-false, lt-ltb}
 use Rattle.rcp_model.specs.FrameRows.{FrameRows, is_down}
-use Rattle.rcp_model.specs.Messages.{Letter, heard_message, is_voted}
+use Rattle.rcp_model.specs.Messages.{Letter}
 use Rattle.rcp_model.specs.Uniprocessor.{ProcessorState}
 use Rattle.rcp_model.specs.Ballot.{slots_heard, values_heard, taken_slot, is_median, voted_cell, voted_cells, ballot_of}
 use Rattle.rcp_base.specs.Median.{chosen_value}

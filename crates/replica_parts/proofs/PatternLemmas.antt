@@ -1,5 +1,5 @@
 -- The votes of a plan's pattern are the plan's, past the last slot and cell too.
-use Rattle.std.proofs.Common.{◌≡◌, ℕ, ◌<◌, ◌≤◌, ◌==◌, ◌&&◌, Bool, false, not, nat_lt, List, [], ◌∷◌, length, All, get_or, refl, sym, ap, ◌∙◌, inl, inr, arith}
+use Rattle.std.proofs.Common.{◌≡◌, ℕ, ◌<◌, ◌≤◌, ◌==◌, ◌&&◌, Bool, false, nat_lt, List, length, All, get_or, sym, ap, ◌∙◌, inl, inr, arith}
 use Rattle.std.proofs.Math.Path.{fun_ext}
 use Rattle.std.specs.List.{list_any}
 use Rattle.std.proofs.lemmas.Bool.{and_left, and_right, cases_lt, le-ltb, ne_eqb}
@@ -9,7 +9,6 @@ use Rattle.rcp_model.specs.declared.plan.PlanParts.{PlanParts}
 use Rattle.rcp_model.specs.declared.plan.SlotRow.{SlotRow}
 use Rattle.rcp_model.specs.Messages.{is_voted}
 use Rattle.rcp_model.specs.Plan.{IsPlan}
-use Rattle.rcp_model.specs.PlanGraph.{graph_of_plan}
 use Rattle.rcp_model.specs.Slot.{no_slot, slot_count}
 use Rattle.vote_pattern.specs.Votes.{Votes, IsPatternOf, is_in}
 

@@ -1,5 +1,5 @@
 -- Places that are made one after the other, and places that stay places.
-use Rattle.std.proofs.Common.{◌≡◌, ℕ, zero, suc, ◌+◌, ◌<◌, ◌++◌, ◌∷◌, [], List, length, map, get_or, set, length-set, replicate, All, refl, subst, sym, ap, ap₂, ◌∙◌, arith}
+use Rattle.std.proofs.Common.{◌≡◌, ℕ, zero, suc, ◌+◌, ◌<◌, ◌++◌, ◌∷◌, [], List, length, map, get_or, set, length-set, replicate, All, subst, sym, ap, ap₂, ◌∙◌, arith}
 use Rattle.std.proofs.lemmas.List.{get_or-replicate, length-append, length-map, length-replicate, map-append}
 use Rattle.std.proofs.lemmas.List.Elements.{All-append, All-nil, All-set}
 use Rattle.rcp_base.specs.Tables.{table}
@@ -7,7 +7,7 @@ use Rattle.rcp_base.proofs.FillLaws.{is_table}
 use Rattle.rcp_base.proofs.TableLaws.{get_or-table, length-table, table_more, table_none}
 use Rattle.rcp_model.specs.declared.plan.PlanParts.{PlanParts}
 use Rattle.rcp_model.specs.System.{initial_state}
-use Rattle.rcp_model.specs.Uniprocessor.{ProcessorState, initial_values}
+use Rattle.rcp_model.specs.Uniprocessor.{ProcessorState}
 use Rattle.replica_parts.specs.declared.setting.Setting.{Setting}
 use Rattle.replica_parts.specs.Rooms.{AreEach, AreStates}
 use Rattle.replica_parts.specs.Setting.{IsSettingOf}

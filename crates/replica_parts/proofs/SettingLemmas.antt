@@ -1,5 +1,5 @@
 -- What follows of a plan for what a layer keeps of it.
-use Rattle.std.proofs.Common.{◌≡◌, ◌≤◌, ◌<◌, ℕ, length, get_or, Bool, false, refl, sym, ap, subst, ◌∙◌, arith, ℤ, pos, FitsSigned, w64, to_z, of_z, ◌+ℤ◌, ◌-ℤ◌, ◌*ℤ◌}
+use Rattle.std.proofs.Common.{◌≡◌, ◌≤◌, ◌<◌, ℕ, length, get_or, Bool, refl, sym, ap, subst, ◌∙◌, arith, ℤ, pos, FitsSigned, w64, to_z, of_z, ◌+ℤ◌, ◌-ℤ◌, ◌*ℤ◌}
 use Rattle.std.proofs.lemmas.Int.{ints, to_z-of_z}
 use Rattle.rcp_base.proofs.TableLaws.{get_or-table, length-table}
 use Rattle.rcp_model.specs.declared.plan.PlanParts.{PlanParts}

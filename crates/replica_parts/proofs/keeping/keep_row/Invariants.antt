@@ -4,7 +4,7 @@ use Rattle.rcp_model.specs.TimingRules.{frame_length}
 use Rattle.rcp_model.specs.declared.plan.PlanParts.{PlanParts}
 use Rattle.replica_parts.specs.Places.{letters_in}
 use Rattle.replica_parts.specs.Rooms.{ArePosts}
-use Rattle.std.proofs.Common.{None, get_or, pos, ℕ, ◌*ℤ◌, ◌+◌, ◌-ℤ◌, ◌≡◌, ℤ}
+use Rattle.std.proofs.Common.{None, get_or, pos, ℕ, ◌*ℤ◌, ◌+◌, ◌-ℤ◌, ◌≡◌}
 use Rattle.replica_parts.proofs.keeping.keep_row.Given as goal
 
 abbrev pub invariant-loop-sender : goal.invariant-loop-sender

@@ -1,6 +1,5 @@
-use Rattle.std.proofs.Common.{Vec, subst}
+use Rattle.std.proofs.Common.{subst}
 use Rattle.std.specs.Prelude.{IfOk}
-use Rattle.std.specs.Global.{Global}
 use Rattle.rcp_model.specs.declared.plan.PlanParts.{PlanParts}
 use Rattle.replica_parts.specs.Rooms.{AreStates}
 use Rattle.replica_parts.specs.Setting.{IsSettingOf}

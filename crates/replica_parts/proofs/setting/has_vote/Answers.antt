@@ -1,5 +1,5 @@
 use Rattle.std.proofs.Common.{◌∙◌, ap, nat_lt, sym}
-use Rattle.std.proofs.lemmas.Bool.{and_left, and_right, le-ltb}
+use Rattle.std.proofs.lemmas.Bool.{and_left, and_right}
 use Rattle.replica_parts.proofs.PatternLemmas.{not_in}
 use Rattle.replica_parts.proofs.setting.has_vote.Goals.{then-slot-slots, else-slot-slots}
 use Rattle.replica_parts.proofs.setting.has_vote.Goals as goal
