@@ -1,0 +1,202 @@
+//! Whole files: the parts of a good one, and the fault of each that is changed, worked by hand from the rules.
+//! This project's own.
+use rcp_model::Plan;
+use std::alloc::Global;
+use std::test::Fail;
+use task_file::{FileFault, Key, Path, Section, path_text, read_plan};
+
+const FILE: &str = r#"replicas = 3
+timing = { compute = 30000, broadcast = 10000, vote = 4000, sync = 6000, skew = 50, drift_ppm = 100, delay_min = 100, delay_max = 2000, skew_limit = 500, drift_limit_ppm = 500 }
+sensor = [{ name = "s", initial = -1 }]
+cell = [{ name = "n", initial = 0 }, { name = "m", initial = 7 }]
+task = [{ name = "first", body = "n := n + 1;" }, { name = "last", body = "m := s;" }]
+slot = [{ tasks = ["first", "last"], votes = ["n", "m"] }]
+actuator = [{ name = "out", value = "n + m" }]
+"#;
+
+// Parts of the file, what stands in their place, and the fault.
+const FAULTS: &str = r#"replicas = 3 => replicas => no document
+replicas = 3 => replicas = 10 => shape replicas
+replicas = 3 => replicas = "3" => shape replicas
+timing = { => time = { => shape timing
+sync = 6000,  =>  => shape timing.sync
+skew = 50 => skew = 1000000001 => shape timing.skew
+compute = 30000 => compute = -1, more = 0 => shape timing.compute
+drift_limit_ppm = 500 => drift_limit_ppm = 500, more = 0 => shape timing.?
+[{ name = "s", initial = -1 }] => 7 => shape sensor
+[{ name = "n", initial = 0 }, { name = "m", initial = 7 }] => [] => shape cell
+{ name = "m", initial = 7 } => 4 => shape cell[1]
+name = "m" => title = "m" => shape cell[1].name
+initial = 7 => initial = "7" => shape cell[1].initial
+initial = 7 => initial = 7, last = 2 => shape cell[1].?
+"m := s;" => ["m := s;"] => shape task[1].body
+["first", "last"] => "first" => shape slot[0].tasks
+["n", "m"] => ["n", 3] => shape slot[0].votes[1]
+, votes = ["n", "m"] =>  => shape slot[0].votes
+value = "n + m" => value = 1 => shape actuator[0].value
+actuator = => speed = => shape ?
+name = "s" => name = "S" => bad name sensor[0].name
+name = "m" => name = "s" => bad name cell[1].name
+name = "last" => name = "first" => bad name task[1].name
+name = "out" => name = "let" => bad name actuator[0].name
+m := s; => m := ; => syntax task[1].body 5
+m := s; => m := q; => unknown name task[1].body 5
+m := s; => q := s; => bad target task[1].body 0
+"n + m" => "n + q" => unknown name actuator[0].value 4
+["first", "last"] => ["first", "none"] => unknown in slot slot[0].tasks[1]
+["n", "m"] => ["n", "s"] => unknown in slot slot[0].votes[1]
+["first", "last"] => ["first", "first"] => clash slot[0].tasks[1]
+m := s; => n := s; => clash slot[0].tasks[1]
+["n", "m"] => ["n", "n"] => clash slot[0].votes[1]
+sync = 6000 => sync = 0 => timing 1
+"#;
+
+/// The fault and its place in words.
+pub fn told(alloc: Global, fault: FileFault) -> Result<String, Fail> {
+    Ok(match fault {
+        FileFault::TooLong => format!(in alloc; "too long")?,
+        FileFault::NotToml => format!(in alloc; "no document")?,
+        FileFault::Shape { path } => format!(in alloc; "shape {path}")?,
+        FileFault::BadName { path } => format!(in alloc; "bad name {path}")?,
+        FileFault::Syntax { path, byte } => format!(in alloc; "syntax {path} {byte}")?,
+        FileFault::UnknownName { path, byte } => format!(in alloc; "unknown name {path} {byte}")?,
+        FileFault::BadTarget { path, byte } => format!(in alloc; "bad target {path} {byte}")?,
+        FileFault::UnknownInSlot { path } => format!(in alloc; "unknown in slot {path}")?,
+        FileFault::SlotClash { path } => format!(in alloc; "clash {path}")?,
+        FileFault::Timing { rule } => format!(in alloc; "timing {rule}")?,
+        FileFault::Memory => format!(in alloc; "memory")?,
+    })
+}
+
+// The fault of the file with one part in place of another.
+fn fault_of(alloc: Global, old: &str, new: &str) -> Result<FileFault, Fail> {
+    let (before, after) = FILE.split_once(old).ok_or("no such part")?;
+    let text = format!(in alloc; "{before}{new}{after}")?;
+    fault_in(alloc, text.as_bytes())
+}
+
+/// The fault of a file that has one.
+pub fn fault_in(alloc: Global, bytes: &[u8]) -> Result<FileFault, Fail> {
+    match read_plan(alloc, bytes) {
+        Ok(_) => Err(Fail::from("no fault")),
+        Err(fault) => Ok(fault),
+    }
+}
+
+#[test]
+fn each_fault_is_told_with_its_place(rt: HostRuntime) -> Result<(), Fail> {
+    let alloc = rt.alloc();
+    for line in FAULTS.lines() {
+        let (change, due) = line.rsplit_once(" => ").ok_or("no fault")?;
+        let (old, new) = change.split_once(" => ").ok_or("no change")?;
+        let text = told(alloc, fault_of(alloc, old, new)?)?;
+        assert_eq!(rt; text.as_str(), due, "{line}");
+    }
+    Ok(())
+}
+
+// The plan of the good file.
+fn good_plan(alloc: Global) -> Result<Plan, Fail> {
+    Ok(read_plan(alloc, FILE.as_bytes()).map_err(|_| "refused")?)
+}
+
+#[test]
+fn a_good_file_gives_its_numbers(rt: HostRuntime) -> Result<(), Fail> {
+    let plan = good_plan(rt.alloc())?;
+    assert_eq!(rt; plan.parts().replicas, 3);
+    assert_eq!(rt; plan.parts().timing.drift_ppm, 100);
+    Ok(())
+}
+
+#[test]
+fn a_good_file_gives_its_cells(rt: HostRuntime) -> Result<(), Fail> {
+    let plan = good_plan(rt.alloc())?;
+    let cell = plan.parts().cells.as_slice().last().ok_or("no cell")?;
+    assert_eq!(rt; cell.name.bytes(), b"m".as_slice());
+    assert_eq!(rt; cell.initial, 7);
+    Ok(())
+}
+
+#[test]
+fn a_good_file_gives_its_tasks(rt: HostRuntime) -> Result<(), Fail> {
+    let plan = good_plan(rt.alloc())?;
+    let task = plan.parts().tasks.as_slice().last().ok_or("no task")?;
+    assert_eq!(rt; task.name.bytes(), b"last".as_slice());
+    Ok(())
+}
+
+#[test]
+fn a_good_file_gives_its_slots(rt: HostRuntime) -> Result<(), Fail> {
+    let plan = good_plan(rt.alloc())?;
+    let slot = plan.parts().slots.as_slice().first().ok_or("no slot")?;
+    assert_eq!(rt; slot.tasks.as_slice(), [0, 1].as_slice());
+    assert_eq!(rt; slot.votes.as_slice(), [0, 1].as_slice());
+    Ok(())
+}
+
+#[test]
+fn a_good_file_gives_its_actuators(rt: HostRuntime) -> Result<(), Fail> {
+    let plan = good_plan(rt.alloc())?;
+    let actuator = plan
+        .parts()
+        .actuators
+        .as_slice()
+        .first()
+        .ok_or("no actuator")?;
+    assert_eq!(rt; actuator.name.bytes(), b"out".as_slice());
+    Ok(())
+}
+
+#[test]
+fn one_byte_more_is_too_long(rt: HostRuntime) -> Result<(), Fail> {
+    let alloc = rt.alloc();
+    let mut bytes = vec![in alloc; b'#'; 1_048_576]?;
+    let fault = fault_in(alloc, bytes.as_slice())?;
+    assert!(rt; matches!(fault, FileFault::Shape { .. }));
+    bytes.push(b'#')?;
+    let fault = fault_in(alloc, bytes.as_slice())?;
+    assert_eq!(rt; fault, FileFault::TooLong);
+    Ok(())
+}
+
+fn place(section: Section, index: Option<u32>, key: Option<Key>, item: Option<u32>) -> Path {
+    Path {
+        section,
+        index,
+        key,
+        item,
+    }
+}
+
+#[test]
+fn places_are_printed_as_far_as_they_go(rt: HostRuntime) -> Result<(), Fail> {
+    for (path, text) in [
+        (place(Section::Replicas, None, None, None), "replicas"),
+        (place(Section::Format, None, None, None), "format"),
+        (
+            place(Section::RecoveryLimit, None, None, None),
+            "recovery_limit",
+        ),
+        (place(Section::Unknown, None, None, None), "?"),
+        (
+            place(Section::Cell, Some(0), Some(Key::Vote), None),
+            "cell[0].vote",
+        ),
+        (
+            place(Section::Timing, None, Some(Key::DriftLimitPpm), None),
+            "timing.drift_limit_ppm",
+        ),
+        (place(Section::Cell, Some(2), None, None), "cell[2]"),
+        (
+            place(Section::Task, Some(127), Some(Key::Unknown), None),
+            "task[127].?",
+        ),
+        (
+            place(Section::Slot, Some(0), Some(Key::Tasks), Some(10)),
+            "slot[0].tasks[10]",
+        ),
+    ] {
+        assert_eq!(rt; path_text(rt.alloc(), &path)?.as_slice(), text.as_bytes());
+    }
+    Ok(())
+}

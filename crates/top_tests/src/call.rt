@@ -1,0 +1,77 @@
+//! The one place where tests call the program.
+//! This project's own.
+use rcp_base::{MemFolder, MemSink};
+use rcp_top::{Status, rcp};
+use std::alloc::Global;
+use std::process::Abort;
+use std::test::Fail;
+
+// The number that the program ends with.
+fn number(status: Status) -> &'static str {
+    match status {
+        Status::Done => "0",
+        Status::Memory => "1",
+        Status::Usage => "2",
+        Status::TaskRefused => "3",
+        Status::PatternRefused => "4",
+        Status::JournalRefused => "5",
+        Status::ReadFault => "6",
+        Status::WriteFault => "7",
+    }
+}
+
+fn words_of(alloc: Global, line: &str) -> Result<Vec<String>, Fail> {
+    let mut list = Vec::new(alloc);
+    for word in line.split_whitespace() {
+        list.push(String::from_str(alloc, word)?)?;
+    }
+    Ok(list)
+}
+
+/// The number of the status for the words of this line.
+pub fn call(
+    alloc: Global,
+    line: &str,
+    folder: &mut MemFolder,
+    out: &mut MemSink,
+) -> Result<&'static str, Fail> {
+    let words = words_of(alloc, line)?;
+    Ok(number(rcp(alloc, words.as_slice(), folder, out)))
+}
+
+/// Two files, under T and J, and one under B that is no TOML.
+pub fn folder_of(alloc: Global, file: &[u8], journal: &[u8]) -> Result<MemFolder, Fail> {
+    let mut folder = MemFolder::new(alloc);
+    folder.put("T", file)?;
+    folder.put("J", journal)?;
+    folder.put("B", b"no = toml = at all")?;
+    Ok(folder)
+}
+
+/// Over this folder and into this sink, the words of the line end with this status, and write this text.
+pub fn check_call(
+    rt: &impl Abort,
+    alloc: Global,
+    line: &str,
+    folder: &mut MemFolder,
+    out: &mut MemSink,
+    due: (&str, &str),
+) -> Result<(), Fail> {
+    let status = call(alloc, line, folder, out)?;
+    assert_eq!(rt; status, due.0, "{line}");
+    assert_eq!(rt; out.bytes(), due.1.as_bytes(), "{line}");
+    Ok(())
+}
+
+/// Over these two files, the words of the line end with this status, and write this text.
+pub fn check(
+    rt: &impl Abort,
+    alloc: Global,
+    line: &str,
+    files: (&[u8], &[u8]),
+    due: (&str, &str),
+) -> Result<(), Fail> {
+    let mut folder = folder_of(alloc, files.0, files.1)?;
+    let mut out = MemSink::new(alloc);
+    check_call(rt, alloc, line, &mut folder, &mut out, due)
+}

@@ -1,0 +1,92 @@
+//! A folder and a sink that fail, and the lines as the sink gets them.
+//! This project's own.
+use crate::call::{check_call, folder_of};
+use crate::case::{check_all, put_line};
+use crate::files::TWO_FRAMES;
+use example_plans::COUNTER;
+use rcp_base::MemSink;
+use std::alloc::Global;
+use std::process::Abort;
+use std::test::Fail;
+
+// A read that fails names its word and leaves no text. A write that fails leaves a front of the text.
+const FAILURES: &str = "6 counter ideal T J
+! read 1
+unreadable: T
+
+6 counter ideal T J
+! read 2
+unreadable: J
+
+6 counter check T
+! read 1
+unreadable: T
+
+0 counter check T
+! read 2
+task count n := n + 1;
+slot 0 votes n
+votes 1
+recovery 1
+walk -
+
+7 motor ideal T J
+: 0,sensor,cmd,10,,
+: 4,end,,,,
+! write 3 after 5
+frame 0
+vote motor 10
+> ideal";
+
+const COUNTED: &str = "frame 0
+vote out 1
+ideal slot 0 cells 1
+frame 1
+vote out 2
+ideal slot 0 cells 2
+end 2
+";
+
+const COUNTER_CHECKED: &str = "task count n := n + 1;
+slot 0 votes n
+votes 1
+recovery 1
+walk -
+";
+
+// Where the write with this number fails before its first byte, this text was written.
+fn check_front(
+    rt: &impl Abort,
+    alloc: Global,
+    line: &str,
+    write: u32,
+    due: (&str, &str),
+) -> Result<(), Fail> {
+    let mut folder = folder_of(alloc, COUNTER.as_bytes(), TWO_FRAMES.as_bytes())?;
+    let mut out = MemSink::new(alloc);
+    out.fail_at(write, 0)?;
+    check_call(rt, alloc, line, &mut folder, &mut out, due)
+}
+
+// Before each write the lines so far were written, and after the last all of them.
+fn lines_are_writes(rt: &impl Abort, alloc: Global, line: &str, text: &str) -> Result<(), Fail> {
+    let mut written = String::new(alloc);
+    let mut write = 1u32;
+    for next in text.lines() {
+        check_front(rt, alloc, line, write, ("7", written.as_str()))?;
+        put_line(&mut written, next)?;
+        write = write.saturating_add(1);
+    }
+    check_front(rt, alloc, line, write, ("0", written.as_str()))
+}
+
+#[test]
+fn failures_are_told(rt: HostRuntime) -> Result<(), Fail> {
+    check_all(&rt, rt.alloc(), FAILURES)
+}
+
+#[test]
+fn each_line_is_one_write(rt: HostRuntime) -> Result<(), Fail> {
+    lines_are_writes(&rt, rt.alloc(), "ideal T J", COUNTED)?;
+    lines_are_writes(&rt, rt.alloc(), "check T", COUNTER_CHECKED)
+}
