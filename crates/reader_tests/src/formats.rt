@@ -1,9 +1,11 @@
 //! Format 2 of a task file, and what format 1 has not: lines that stand before the counter's file, a part of it, what stands
 //! in its place, and the fault.
 //! This project's own.
-use crate::task_files::{fault_in, told};
+use crate::cases::{check_answer, check_lines, halves, replaced};
+use crate::task_files::fault_in;
 use example_plans::{COUNTER, MOTOR};
-use std::alloc::Global;
+use rcp_model::Plan;
+use std::alloc::{AllocError, Global};
 use std::test::Fail;
 use task_file::read_plan;
 
@@ -23,47 +25,57 @@ format = 2 / recovery_limit = 0 => replicas = 3 => replicas = 10 => shape replic
 format = 2 / recovery_limit = 0 => compute = 30000 => compute = -1 => shape recovery_limit
 "#;
 
-// A file with one or two lines before it, and one part in place of another.
-fn changed(alloc: Global, head: &str, file: &str, old: &str, new: &str) -> Result<String, Fail> {
-    let (first, second) = head.split_once(" / ").unwrap_or((head, ""));
-    let (before, after) = file.split_once(old).ok_or("no such part")?;
-    Ok(format!(in alloc; "{first}\n{second}\n{before}{new}{after}")?)
+fn slash_parted(head: &str) -> (&str, &str) {
+    head.split_once(" / ").unwrap_or((head, ""))
+}
+
+// A file with one or two lines before it, which a slash parts.
+fn headed(alloc: Global, head: &str, file: &str) -> Result<String, AllocError> {
+    let (first, second) = slash_parted(head);
+    format!(in alloc; "{first}\n{second}\n{file}")
+}
+
+// The fault of the counter's file with these lines and a part in place of another.
+fn fault_of(alloc: Global, case: &str) -> Result<String, Fail> {
+    let (head, change) = halves(case);
+    let (old, new) = halves(change);
+    let file = replaced(alloc, COUNTER, old, new)?;
+    let text = headed(alloc, head, file.as_str())?;
+    fault_in(alloc, text.as_bytes())
 }
 
 #[test]
 fn other_formats_are_refused_with_their_place(rt: HostRuntime) -> Result<(), Fail> {
-    let alloc = rt.alloc();
-    for line in FAULTS.lines() {
-        let (head, change) = line.split_once(" => ").ok_or("no head")?;
-        let (change, due) = change.rsplit_once(" => ").ok_or("no fault")?;
-        let (old, new) = change.split_once(" => ").ok_or("no change")?;
-        let text = changed(alloc, head, COUNTER, old, new)?;
-        let said = told(alloc, fault_in(alloc, text.as_bytes())?)?;
-        assert_eq!(rt; said.as_str(), due, "{line}");
-    }
-    Ok(())
+    check_lines(&rt, rt.alloc(), FAULTS, |alloc, case| fault_of(alloc, case))
+}
+
+// The cells that are voted by the median, and the limit.
+fn shown(alloc: Global, plan: &Plan) -> Result<String, AllocError> {
+    let parts = plan.parts();
+    format!(in alloc; "{:?} {:?}", parts.medians.as_slice(), parts.recovery_limit)
+}
+
+// The same of the plan that a file with these lines before it gives.
+fn plan_shown(alloc: Global, head: &str, file: &str) -> Result<String, Fail> {
+    let text = headed(alloc, head, file)?;
+    let plan = read_plan(alloc, text.as_bytes()).map_err(|_| "refused")?;
+    Ok(shown(alloc, &plan)?)
 }
 
 #[test]
 fn format_2_gives_medians_and_a_limit(rt: HostRuntime) -> Result<(), Fail> {
-    let alloc = rt.alloc();
     let old = r#""err", initial = 0 }"#;
     let new = r#""err", initial = 0, vote = "median" }"#;
-    let text = changed(alloc, "format = 2 / recovery_limit = 2049", MOTOR, old, new)?;
-    let plan = read_plan(alloc, text.as_bytes()).map_err(|_| "refused")?;
-    let parts = plan.parts();
-    assert_eq!(rt; parts.medians.as_slice(), [1].as_slice());
-    assert_eq!(rt; parts.recovery_limit, Some(2049));
+    let file = replaced(rt.alloc(), MOTOR, old, new)?;
+    let head = "format = 2 / recovery_limit = 2049";
+    let text = plan_shown(rt.alloc(), head, file.as_str())?;
+    check_answer(&rt, head, text.as_str(), "[1] Some(2049)");
     Ok(())
 }
 
 #[test]
 fn format_1_has_neither(rt: HostRuntime) -> Result<(), Fail> {
-    let alloc = rt.alloc();
-    let text = changed(alloc, "format = 1", MOTOR, "", "")?;
-    let plan = read_plan(alloc, text.as_bytes()).map_err(|_| "refused")?;
-    let parts = plan.parts();
-    assert_eq!(rt; parts.medians.len(), 0);
-    assert_eq!(rt; parts.recovery_limit, None);
+    let text = plan_shown(rt.alloc(), "format = 1", MOTOR)?;
+    check_answer(&rt, "format = 1", text.as_str(), "[] None");
     Ok(())
 }

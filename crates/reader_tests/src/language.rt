@@ -1,5 +1,6 @@
 //! What the rules of the language say of some texts, worked by hand.
 //! This project's own.
+use crate::cases::{check_answer, check_lines, parted};
 use rcp_base::Name;
 use rcp_model::{Expr, Task};
 use std::alloc::{AllocError, Global};
@@ -210,6 +211,58 @@ let x = 1; n := 2; let y = x; => let x = 1; let y = x; n := 2;
 let x = 1; => let x = 1;
 ";
 
+// Bodies over the same names with reserved words in the place of names.
+const RESERVED: &str = "let let = 1; => Syntax 4
+let and = 1; => Syntax 4
+let or = 1; => Syntax 4
+let not = 1; => Syntax 4
+let abs = 1; => Syntax 4
+let min = 1; => Syntax 4
+let max = 1; => Syntax 4
+let clamp = 1; => Syntax 4
+let if = 1; => Syntax 4
+let := 1; => Syntax 4
+and := 1; => Syntax 0
+or := 1; => Syntax 0
+not := 1; => Syntax 0
+abs := 1; => Syntax 0
+min := 1; => Syntax 0
+max := 1; => Syntax 0
+clamp := 1; => Syntax 0
+if := 1; => Syntax 0
+";
+
+// Expressions with blanks, which part tokens, and a fault at the end stands behind them. No other byte is a blank. Bars stand
+// between the cases.
+const BLANKS: &str = "\t1 => Number(1)|\r\n1  => Number(1)|1\n => Number(1)|1\r => Number(1)|\
+\x20=> Syntax 0|\x20\t\n => Syntax 3|1 + \t => Syntax 5|q +\r\n => Syntax 5|\
+\0 => Syntax 0|\u{1} => Syntax 0|\u{b}1 => Syntax 0|\u{c}1 => Syntax 0|\u{7f} => Syntax 0|\u{a0}1 => Syntax 0";
+
+// The same for bodies.
+const BLANK_BODIES: &str =
+    "\x20=> Syntax 0|n :=  \n => Syntax 7|\nn\t:=\r\n 1 ;  => 1 = Number(1);";
+
+// What encloses a token, as often as may be and once more, and what a prefix encloses: so many times the first part, the second
+// part, and as often the third. What is read is not told, only that it is.
+const ENCLOSED: &str = "64|(|1|) => read
+65|(|1|) => Syntax 64
+64|-|1| => read
+65|-|1| => Syntax 64
+64|not |1| => read
+65|not |1| => Syntax 256
+64|abs(|1|) => read
+65|abs(|1|) => Syntax 256
+64|-|1 + (2)| => read
+64|-|(1)| => Syntax 64
+64|-|abs(1)| => Syntax 64
+64|-|abs| => Syntax 64
+64|-|| => Syntax 64
+64|not |1 and (2)| => read
+64|not |1 < (2)| => Syntax 260
+64|not |-1| => Syntax 256
+64|not |min(1, 2)| => Syntax 256
+";
+
 fn name(text: &str) -> Result<Name, Fail> {
     Ok(Name::read(text).ok_or("no name")?)
 }
@@ -230,219 +283,247 @@ fn fault_shown(alloc: Global, fault: LangFault) -> Result<String, AllocError> {
     }
 }
 
+fn put_lets(alloc: Global, task: &Task, shown: &mut String) -> Result<(), Fail> {
+    for row in task.lets.as_slice() {
+        let value = tree_shown(alloc, &row.value)?;
+        shown.push_str(str::from_utf8(row.name.bytes())?)?;
+        shown.push_str(" = ")?;
+        shown.push_str(value.as_str())?;
+        shown.push_str("; ")?;
+    }
+    Ok(())
+}
+
+fn put_sets(alloc: Global, task: &Task, shown: &mut String) -> Result<(), Fail> {
+    for row in task.sets.as_slice() {
+        let value = tree_shown(alloc, &row.value)?;
+        let text = format!(in alloc; "{} = {}; ", row.cell, value.as_str())?;
+        shown.push_str(text.as_str())?;
+    }
+    Ok(())
+}
+
 // The lets of a task by their names and values, then its sets by their cells and values.
 fn task_shown(alloc: Global, task: &Task) -> Result<String, Fail> {
     let mut shown = String::new(alloc);
-    for row in task.lets.as_slice() {
-        let value = tree_shown(alloc, &row.value)?;
-        let name = str::from_utf8(row.name.bytes())?;
-        shown.push_str(format!(in alloc; "{name} = {value}; ")?.as_str())?;
-    }
-    for row in task.sets.as_slice() {
-        let value = tree_shown(alloc, &row.value)?;
-        shown.push_str(format!(in alloc; "{} = {value}; ", row.cell)?.as_str())?;
-    }
+    put_lets(alloc, task, &mut shown)?;
+    put_sets(alloc, task, &mut shown)?;
     Ok(String::from_str(alloc, shown.as_str().trim_end())?)
 }
 
-fn expr_answer(alloc: Global, text: &str) -> Result<String, Fail> {
+fn read_expr(alloc: Global, text: &str) -> Result<Result<Expr, LangFault>, Fail> {
     if text.len() > 16384 {
         return Err(Fail::new("a long text"));
     }
     let sensors = [name("s")?, name("both")?, name(LONGEST)?];
     let cells = [name("c")?, name("both")?, name("n_2")?];
-    match parse_expr(alloc, text, &sensors, &cells) {
+    Ok(parse_expr(alloc, text, &sensors, &cells))
+}
+
+fn expr_answer(alloc: Global, text: &str) -> Result<String, Fail> {
+    match read_expr(alloc, text)? {
         Ok(tree) => Ok(tree_shown(alloc, &tree)?),
         Err(fault) => Ok(fault_shown(alloc, fault)?),
     }
 }
 
-fn body_answer(alloc: Global, text: &str) -> Result<String, Fail> {
+fn read_body(alloc: Global, text: &str) -> Result<Result<Task, LangFault>, Fail> {
     if text.len() > 16384 {
         return Err(Fail::new("a long text"));
     }
     let sensors = [name("s")?];
     let cells = [name("k")?, name("n")?];
-    match parse_body(alloc, name("t")?, text, &sensors, &cells) {
+    Ok(parse_body(alloc, name("t")?, text, &sensors, &cells))
+}
+
+fn body_answer(alloc: Global, text: &str) -> Result<String, Fail> {
+    match read_body(alloc, text)? {
         Ok(task) => task_shown(alloc, &task),
         Err(fault) => Ok(fault_shown(alloc, fault)?),
     }
 }
 
-// Each line has a text and what it is read as.
-fn expressions_answer(rt: &impl Abort, alloc: Global, lines: &str) -> Result<(), Fail> {
-    for line in lines.lines() {
-        let (text, due) = line.split_once(" => ").ok_or("no case")?;
-        let answer = expr_answer(alloc, text)?;
-        assert_eq!(rt; answer.as_str(), due, "at {text}");
+// What is printed of a task over the names of bodies.
+fn task_printed(alloc: Global, task: &Task) -> Result<String, Fail> {
+    let sensors = [name("s")?];
+    let cells = [name("k")?, name("n")?];
+    let bytes = print_body(alloc, task, &sensors, &cells)?;
+    Ok(String::from_str(alloc, str::from_utf8(bytes.as_slice())?)?)
+}
+
+// What is printed of a body that is read.
+fn printed(alloc: Global, text: &str) -> Result<String, Fail> {
+    let task = read_body(alloc, text)??;
+    task_printed(alloc, &task)
+}
+
+fn put_often(text: &mut String, part: &str, times: u32) -> Result<(), AllocError> {
+    for _time in 0..times {
+        text.push_str(part)?;
     }
     Ok(())
 }
 
-fn bodies_answer(rt: &impl Abort, alloc: Global, lines: &str) -> Result<(), Fail> {
-    for line in lines.lines() {
-        let (text, due) = line.split_once(" => ").ok_or("no case")?;
-        let answer = body_answer(alloc, text)?;
-        assert_eq!(rt; answer.as_str(), due, "at {text}");
+fn bar_parted(text: &str) -> (&str, &str) {
+    text.split_once('|').unwrap_or((text, ""))
+}
+
+fn enclosed(alloc: Global, case: &str) -> Result<String, Fail> {
+    let (times, parts) = bar_parted(case);
+    let (open, parts) = bar_parted(parts);
+    let (inner, close) = bar_parted(parts);
+    let times = times.parse().map_err(|_| "no number")?;
+    let mut text = String::new(alloc);
+    put_often(&mut text, open, times)?;
+    text.push_str(inner)?;
+    put_often(&mut text, close, times)?;
+    Ok(text)
+}
+
+// The fault alone, if it is one.
+fn outcome(answer: &str) -> &str {
+    if answer.starts_with("Syntax") {
+        answer
+    } else {
+        "read"
     }
+}
+
+fn enclosed_answer(alloc: Global, case: &str) -> Result<String, Fail> {
+    let text = enclosed(alloc, case)?;
+    let answer = expr_answer(alloc, text.as_str())?;
+    Ok(String::from_str(alloc, outcome(answer.as_str()))?)
+}
+
+fn check_message(rt: &impl Abort, alloc: Global, fault: LangFault, due: &str) -> Result<(), Fail> {
+    let text = format!(in alloc; "{fault}")?;
+    check_answer(rt, due, text.as_str(), due);
     Ok(())
 }
 
 #[test]
 fn reads_expressions(rt: HostRuntime) -> Result<(), Fail> {
-    expressions_answer(&rt, rt.alloc(), TREES)
+    check_lines(
+        &rt,
+        rt.alloc(),
+        TREES,
+        |alloc, text| expr_answer(alloc, text),
+    )
 }
 
 #[test]
 fn tells_where_an_expression_goes_wrong(rt: HostRuntime) -> Result<(), Fail> {
-    expressions_answer(&rt, rt.alloc(), NO_EXPRESSIONS)?;
-    expressions_answer(&rt, rt.alloc(), UNKNOWN)
+    check_lines(&rt, rt.alloc(), NO_EXPRESSIONS, |alloc, text| {
+        expr_answer(alloc, text)
+    })
+}
+
+#[test]
+fn tells_names_that_stand_for_nothing(rt: HostRuntime) -> Result<(), Fail> {
+    check_lines(
+        &rt,
+        rt.alloc(),
+        UNKNOWN,
+        |alloc, text| expr_answer(alloc, text),
+    )
 }
 
 #[test]
 fn reads_bodies(rt: HostRuntime) -> Result<(), Fail> {
-    bodies_answer(&rt, rt.alloc(), BODIES)
+    check_lines(
+        &rt,
+        rt.alloc(),
+        BODIES,
+        |alloc, text| body_answer(alloc, text),
+    )
 }
 
 #[test]
 fn tells_where_a_body_goes_wrong(rt: HostRuntime) -> Result<(), Fail> {
-    bodies_answer(&rt, rt.alloc(), NO_BODIES)?;
-    bodies_answer(&rt, rt.alloc(), WRONG_NAMES)
+    check_lines(
+        &rt,
+        rt.alloc(),
+        NO_BODIES,
+        |alloc, text| body_answer(alloc, text),
+    )
 }
 
-// No reserved word is a name.
+#[test]
+fn tells_names_that_stand_where_they_may_not(rt: HostRuntime) -> Result<(), Fail> {
+    check_lines(
+        &rt,
+        rt.alloc(),
+        WRONG_NAMES,
+        |alloc, text| body_answer(alloc, text),
+    )
+}
+
 #[test]
 fn reserved_words_are_no_names(rt: HostRuntime) -> Result<(), Fail> {
-    let alloc = rt.alloc();
-    for word in "let and or not abs min max clamp if".split(' ') {
-        let begun = body_answer(alloc, format!(in alloc; "let {word} = 1;")?.as_str())?;
-        assert_eq!(rt; begun.as_str(), "Syntax 4", "at {word}");
-        let due = if word == "let" {
-            "Syntax 4"
-        } else {
-            "Syntax 0"
-        };
-        let set = body_answer(alloc, format!(in alloc; "{word} := 1;")?.as_str())?;
-        assert_eq!(rt; set.as_str(), due, "at {word}");
-    }
-    Ok(())
+    check_lines(
+        &rt,
+        rt.alloc(),
+        RESERVED,
+        |alloc, text| body_answer(alloc, text),
+    )
 }
 
-// Blanks part tokens, and a fault at the end stands behind them. No other byte is one.
 #[test]
 fn blanks_are_four_bytes(rt: HostRuntime) -> Result<(), Fail> {
-    let alloc = rt.alloc();
-    for text in ["\t1", "\r\n1 ", "1\n", "1\r"] {
-        assert_eq!(rt; expr_answer(alloc, text)?.as_str(), "Number(1)");
-    }
-    assert_eq!(rt; expr_answer(alloc, "")?.as_str(), "Syntax 0");
-    assert_eq!(rt; expr_answer(alloc, " \t\n")?.as_str(), "Syntax 3");
-    assert_eq!(rt; expr_answer(alloc, "1 + \t")?.as_str(), "Syntax 5");
-    assert_eq!(rt; expr_answer(alloc, "q +\r\n")?.as_str(), "Syntax 5");
-    assert_eq!(rt; body_answer(alloc, "")?.as_str(), "Syntax 0");
-    assert_eq!(rt; body_answer(alloc, "n :=  \n")?.as_str(), "Syntax 7");
-    assert_eq!(rt;
-        body_answer(alloc, "\nn\t:=\r\n 1 ; ")?.as_str(),
-        "1 = Number(1);"
-    );
-    for text in ["\0", "\u{1}", "\u{b}1", "\u{c}1", "\u{7f}", "\u{a0}1"] {
-        assert_eq!(rt; expr_answer(alloc, text)?.as_str(), "Syntax 0");
+    for line in BLANKS.split('|') {
+        let (case, due) = parted(line);
+        let answer = expr_answer(rt.alloc(), case)?;
+        check_answer(&rt, line, answer.as_str(), due);
     }
     Ok(())
 }
 
-// What encloses a token, as often as may be and once more.
+#[test]
+fn bodies_have_the_same_blanks(rt: HostRuntime) -> Result<(), Fail> {
+    for line in BLANK_BODIES.split('|') {
+        let (case, due) = parted(line);
+        let answer = body_answer(rt.alloc(), case)?;
+        check_answer(&rt, line, answer.as_str(), due);
+    }
+    Ok(())
+}
+
 #[test]
 fn sixty_four_enclose_a_token(rt: HostRuntime) -> Result<(), Fail> {
-    let alloc = rt.alloc();
-    for (open, close, due) in [
-        ("(", ")", "Syntax 64"),
-        ("-", "", "Syntax 64"),
-        ("not ", "", "Syntax 256"),
-        ("abs(", ")", "Syntax 256"),
-    ] {
-        let front = open.repeat(alloc, 64)?;
-        let behind = close.repeat(alloc, 64)?;
-        let fits = format!(in alloc; "{}1{}", front.as_str(), behind.as_str())?;
-        let answer = expr_answer(alloc, fits.as_str())?;
-        assert!(rt; !answer.as_str().starts_with("Syntax"), "at {open}");
-        let more = format!(in alloc; "{}{open}1{close}{}", front.as_str(), behind.as_str())?;
-        assert_eq!(rt;
-            expr_answer(alloc, more.as_str())?.as_str(),
-            due,
-            "at {open}"
-        );
-    }
-    Ok(())
-}
-
-// What a prefix encloses, and where a call is that may not be enclosed.
-#[test]
-fn prefixes_enclose_their_operand(rt: HostRuntime) -> Result<(), Fail> {
-    let alloc = rt.alloc();
-    let minus = "-".repeat(alloc, 64)?;
-    let opposite = "not ".repeat(alloc, 64)?;
-    for (front, behind, due) in [
-        (minus.as_str(), "1 + (2)", "read"),
-        (minus.as_str(), "(1)", "Syntax 64"),
-        (minus.as_str(), "abs(1)", "Syntax 64"),
-        (minus.as_str(), "abs", "Syntax 64"),
-        (minus.as_str(), "", "Syntax 64"),
-        (opposite.as_str(), "1 and (2)", "read"),
-        (opposite.as_str(), "1 < (2)", "Syntax 260"),
-        (opposite.as_str(), "-1", "Syntax 256"),
-        (opposite.as_str(), "min(1, 2)", "Syntax 256"),
-    ] {
-        let text = format!(in alloc; "{front}{behind}")?;
-        let answer = expr_answer(alloc, text.as_str())?;
-        if due == "read" {
-            assert!(rt; !answer.as_str().starts_with("Syntax"), "at {behind}");
-        } else {
-            assert_eq!(rt; answer.as_str(), due, "at {behind}");
-        }
-    }
-    Ok(())
+    check_lines(&rt, rt.alloc(), ENCLOSED, |alloc, text| {
+        enclosed_answer(alloc, text)
+    })
 }
 
 #[test]
 fn faults_have_messages(rt: HostRuntime) -> Result<(), Fail> {
     let alloc = rt.alloc();
-    for (fault, due) in [
-        (LangFault::Syntax { byte: 5 }, "a fault of syntax at byte 5"),
-        (
-            LangFault::UnknownName { byte: 0 },
-            "an unknown name at byte 0",
-        ),
-        (
-            LangFault::BadTarget { byte: 70000 },
-            "a name that may not be given a value at byte 70000",
-        ),
-        (LangFault::Memory, "memory ran out"),
-    ] {
-        assert_eq!(rt; format!(in alloc; "{fault}")?.as_str(), due);
-    }
-    Ok(())
-}
-
-// What is printed of a body that is read.
-fn printed(alloc: Global, text: &str) -> Result<String, Fail> {
-    if text.len() > 16384 {
-        return Err(Fail::new("a long text"));
-    }
-    let sensors = [name("s")?];
-    let cells = [name("k")?, name("n")?];
-    let task = parse_body(alloc, name("t")?, text, &sensors, &cells)?;
-    let bytes = print_body(alloc, &task, &sensors, &cells)?;
-    Ok(String::from_str(alloc, str::from_utf8(bytes.as_slice())?)?)
+    let fault = LangFault::Syntax { byte: 5 };
+    check_message(&rt, alloc, fault, "a fault of syntax at byte 5")?;
+    let fault = LangFault::UnknownName { byte: 0 };
+    check_message(&rt, alloc, fault, "an unknown name at byte 0")?;
+    let fault = LangFault::BadTarget { byte: 70000 };
+    check_message(
+        &rt,
+        alloc,
+        fault,
+        "a name that may not be given a value at byte 70000",
+    )?;
+    check_message(&rt, alloc, LangFault::Memory, "memory ran out")
 }
 
 #[test]
 fn prints_few_brackets_and_lets_first(rt: HostRuntime) -> Result<(), Fail> {
-    let alloc = rt.alloc();
+    check_lines(&rt, rt.alloc(), PRINTED, |alloc, text| printed(alloc, text))
+}
+
+// What is printed is printed so again.
+#[test]
+fn prints_its_own_text_unchanged(rt: HostRuntime) -> Result<(), Fail> {
     for line in PRINTED.lines() {
-        let (text, due) = line.split_once(" => ").ok_or("no case")?;
-        assert_eq!(rt; printed(alloc, text)?.as_str(), due, "of {text}");
-        assert_eq!(rt; printed(alloc, due)?.as_str(), due, "of {due}");
+        let (_, due) = parted(line);
+        let text = printed(rt.alloc(), due)?;
+        check_answer(&rt, line, text.as_str(), due);
     }
     Ok(())
 }

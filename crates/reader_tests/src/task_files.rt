@@ -1,7 +1,9 @@
 //! Whole files: the parts of a good one, and the fault of each that is changed, worked by hand from the rules.
 //! This project's own.
+use crate::cases::{check_answer, check_lines, halves, replaced};
 use rcp_model::Plan;
-use std::alloc::Global;
+use std::alloc::{AllocError, Global};
+use std::process::Abort;
 use std::test::Fail;
 use task_file::{FileFault, Key, Path, Section, path_text, read_plan};
 
@@ -52,47 +54,45 @@ sync = 6000 => sync = 0 => timing 1
 "#;
 
 /// The fault and its place in words.
-pub fn told(alloc: Global, fault: FileFault) -> Result<String, Fail> {
-    Ok(match fault {
-        FileFault::TooLong => format!(in alloc; "too long")?,
-        FileFault::NotToml => format!(in alloc; "no document")?,
-        FileFault::Shape { path } => format!(in alloc; "shape {path}")?,
-        FileFault::BadName { path } => format!(in alloc; "bad name {path}")?,
-        FileFault::Syntax { path, byte } => format!(in alloc; "syntax {path} {byte}")?,
-        FileFault::UnknownName { path, byte } => format!(in alloc; "unknown name {path} {byte}")?,
-        FileFault::BadTarget { path, byte } => format!(in alloc; "bad target {path} {byte}")?,
-        FileFault::UnknownInSlot { path } => format!(in alloc; "unknown in slot {path}")?,
-        FileFault::SlotClash { path } => format!(in alloc; "clash {path}")?,
-        FileFault::Timing { rule } => format!(in alloc; "timing {rule}")?,
-        FileFault::Memory => format!(in alloc; "memory")?,
-    })
+pub fn told(alloc: Global, fault: FileFault) -> Result<String, AllocError> {
+    match fault {
+        FileFault::TooLong => format!(in alloc; "too long"),
+        FileFault::NotToml => format!(in alloc; "no document"),
+        FileFault::Shape { path } => format!(in alloc; "shape {path}"),
+        FileFault::BadName { path } => format!(in alloc; "bad name {path}"),
+        FileFault::Syntax { path, byte } => format!(in alloc; "syntax {path} {byte}"),
+        FileFault::UnknownName { path, byte } => format!(in alloc; "unknown name {path} {byte}"),
+        FileFault::BadTarget { path, byte } => format!(in alloc; "bad target {path} {byte}"),
+        FileFault::UnknownInSlot { path } => format!(in alloc; "unknown in slot {path}"),
+        FileFault::SlotClash { path } => format!(in alloc; "clash {path}"),
+        FileFault::Timing { rule } => format!(in alloc; "timing {rule}"),
+        FileFault::Memory => format!(in alloc; "memory"),
+    }
+}
+
+/// The fault of a file in words.
+pub fn fault_in(alloc: Global, bytes: &[u8]) -> Result<String, Fail> {
+    match read_plan(alloc, bytes) {
+        Ok(_) => Err(Fail::from("no fault")),
+        Err(fault) => Ok(told(alloc, fault)?),
+    }
 }
 
 // The fault of the file with one part in place of another.
-fn fault_of(alloc: Global, old: &str, new: &str) -> Result<FileFault, Fail> {
-    let (before, after) = FILE.split_once(old).ok_or("no such part")?;
-    let text = format!(in alloc; "{before}{new}{after}")?;
+fn fault_of(alloc: Global, change: &str) -> Result<String, Fail> {
+    let (old, new) = halves(change);
+    let text = replaced(alloc, FILE, old, new)?;
     fault_in(alloc, text.as_bytes())
-}
-
-/// The fault of a file that has one.
-pub fn fault_in(alloc: Global, bytes: &[u8]) -> Result<FileFault, Fail> {
-    match read_plan(alloc, bytes) {
-        Ok(_) => Err(Fail::from("no fault")),
-        Err(fault) => Ok(fault),
-    }
 }
 
 #[test]
 fn each_fault_is_told_with_its_place(rt: HostRuntime) -> Result<(), Fail> {
-    let alloc = rt.alloc();
-    for line in FAULTS.lines() {
-        let (change, due) = line.rsplit_once(" => ").ok_or("no fault")?;
-        let (old, new) = change.split_once(" => ").ok_or("no change")?;
-        let text = told(alloc, fault_of(alloc, old, new)?)?;
-        assert_eq!(rt; text.as_str(), due, "{line}");
-    }
-    Ok(())
+    check_lines(
+        &rt,
+        rt.alloc(),
+        FAULTS,
+        |alloc, change| fault_of(alloc, change),
+    )
 }
 
 // The plan of the good file.
@@ -148,55 +148,60 @@ fn a_good_file_gives_its_actuators(rt: HostRuntime) -> Result<(), Fail> {
 }
 
 #[test]
-fn one_byte_more_is_too_long(rt: HostRuntime) -> Result<(), Fail> {
-    let alloc = rt.alloc();
-    let mut bytes = vec![in alloc; b'#'; 1_048_576]?;
-    let fault = fault_in(alloc, bytes.as_slice())?;
-    assert!(rt; matches!(fault, FileFault::Shape { .. }));
-    bytes.push(b'#')?;
-    let fault = fault_in(alloc, bytes.as_slice())?;
-    assert_eq!(rt; fault, FileFault::TooLong);
+fn the_longest_file_is_read(rt: HostRuntime) -> Result<(), Fail> {
+    let bytes = vec![in rt.alloc(); b'#'; 1_048_576]?;
+    let fault = fault_in(rt.alloc(), bytes.as_slice())?;
+    check_answer(&rt, "1,048,576 bytes", fault.as_str(), "shape replicas");
     Ok(())
 }
 
-fn place(section: Section, index: Option<u32>, key: Option<Key>, item: Option<u32>) -> Path {
+#[test]
+fn one_byte_more_is_too_long(rt: HostRuntime) -> Result<(), Fail> {
+    let bytes = vec![in rt.alloc(); b'#'; 1_048_577]?;
+    let fault = fault_in(rt.alloc(), bytes.as_slice())?;
+    check_answer(&rt, "1,048,577 bytes", fault.as_str(), "too long");
+    Ok(())
+}
+
+fn check_place(rt: &impl Abort, alloc: Global, path: Path, due: &str) -> Result<(), Fail> {
+    let text = path_text(alloc, &path)?;
+    assert_eq!(rt; text.as_slice(), due.as_bytes(), "{due}");
+    Ok(())
+}
+
+// A place without an entry of a list.
+fn place(section: Section, index: Option<u32>, key: Option<Key>) -> Path {
     Path {
         section,
         index,
         key,
-        item,
+        item: None,
     }
 }
 
 #[test]
+fn sections_are_printed(rt: HostRuntime) -> Result<(), Fail> {
+    let alloc = rt.alloc();
+    let check = |section, due| check_place(&rt, alloc, place(section, None, None), due);
+    check(Section::Replicas, "replicas")?;
+    check(Section::Format, "format")?;
+    check(Section::RecoveryLimit, "recovery_limit")?;
+    check(Section::Unknown, "?")
+}
+
+#[test]
 fn places_are_printed_as_far_as_they_go(rt: HostRuntime) -> Result<(), Fail> {
-    for (path, text) in [
-        (place(Section::Replicas, None, None, None), "replicas"),
-        (place(Section::Format, None, None, None), "format"),
-        (
-            place(Section::RecoveryLimit, None, None, None),
-            "recovery_limit",
-        ),
-        (place(Section::Unknown, None, None, None), "?"),
-        (
-            place(Section::Cell, Some(0), Some(Key::Vote), None),
-            "cell[0].vote",
-        ),
-        (
-            place(Section::Timing, None, Some(Key::DriftLimitPpm), None),
-            "timing.drift_limit_ppm",
-        ),
-        (place(Section::Cell, Some(2), None, None), "cell[2]"),
-        (
-            place(Section::Task, Some(127), Some(Key::Unknown), None),
-            "task[127].?",
-        ),
-        (
-            place(Section::Slot, Some(0), Some(Key::Tasks), Some(10)),
-            "slot[0].tasks[10]",
-        ),
-    ] {
-        assert_eq!(rt; path_text(rt.alloc(), &path)?.as_slice(), text.as_bytes());
-    }
-    Ok(())
+    let alloc = rt.alloc();
+    let path = place(Section::Cell, Some(0), Some(Key::Vote));
+    check_place(&rt, alloc, path, "cell[0].vote")?;
+    let path = place(Section::Timing, None, Some(Key::DriftLimitPpm));
+    check_place(&rt, alloc, path, "timing.drift_limit_ppm")?;
+    check_place(&rt, alloc, place(Section::Cell, Some(2), None), "cell[2]")?;
+    let path = place(Section::Task, Some(127), Some(Key::Unknown));
+    check_place(&rt, alloc, path, "task[127].?")?;
+    let path = Path {
+        item: Some(10),
+        ..place(Section::Slot, Some(0), Some(Key::Tasks))
+    };
+    check_place(&rt, alloc, path, "slot[0].tasks[10]")
 }
