@@ -4,9 +4,9 @@ ghost use Rattle.std.specs.Prelude.{◌≡◌, ◌<◌, IsTrue};
 
 use example_plans::{counter, motor, pitch};
 use rcp_model::Plan;
-use std::alloc::Global;
+use std::alloc::{AllocError, Global};
 use std::test::Fail;
-use task_file::read_plan;
+use task_file::{FileFault, read_plan};
 use task_graph::DepRows;
 use vote_pattern::Pattern;
 
@@ -26,16 +26,19 @@ slot = [
 ]
 "#;
 
-/// The plan of that name.
-pub fn plan_named(alloc: Global, name: &str) -> Result<Plan, Fail> {
-    let plan = match name {
+// The plan of that name, which for any other name is the copy's.
+fn read_named(alloc: Global, name: &str) -> Result<Plan, FileFault> {
+    match name {
         "motor" => motor(alloc),
         "counter" => counter(alloc),
         "pitch" => pitch(alloc),
-        "copy" => read_plan(alloc, COPY.as_bytes()),
-        _ => return Err("no such plan".into()),
-    };
-    Ok(plan.map_err(|_| "no plan")?)
+        _ => read_plan(alloc, COPY.as_bytes()),
+    }
+}
+
+/// The same in a test.
+pub fn plan_named(alloc: Global, name: &str) -> Result<Plan, Fail> {
+    Ok(read_named(alloc, name).map_err(|_| "no plan")?)
 }
 
 /// The rows and the pattern are of one size.
@@ -54,22 +57,57 @@ pub fn has_room(pattern: &Pattern, slot: u32, cell: u32) -> bool
     slot < pattern.slots() && cell < pattern.cells()
 }
 
+/// Gives the pattern a vote, or takes it away.
+pub fn put_vote(pattern: &mut Pattern, slot: u32, cell: u32, vote: bool) -> Result<(), Fail> {
+    if !has_room(&*pattern, slot, cell) {
+        return Err("no such node".into());
+    }
+    if vote {
+        pattern.set(slot, cell);
+    } else {
+        pattern.clear(slot, cell);
+    }
+    Ok(())
+}
+
+fn put_slot(pattern: &mut Pattern, slot: u32, votes: &str) -> Result<(), Fail> {
+    let mut cell = 0u32;
+    for vote in votes.bytes() {
+        put_vote(pattern, slot, cell, vote == b'1')?;
+        cell = cell.saturating_add(1);
+    }
+    Ok(())
+}
+
+fn put_votes(pattern: &mut Pattern, votes: &str) -> Result<(), Fail> {
+    let mut slot = 0u32;
+    for word in votes.split(' ') {
+        put_slot(pattern, slot, word)?;
+        slot = slot.saturating_add(1);
+    }
+    Ok(())
+}
+
 // The pattern with these votes.
 fn pattern_with(alloc: Global, rows: &DepRows, votes: &str) -> Result<Pattern, Fail> {
     let mut pattern = Pattern::new(alloc, rows.slots(), rows.cells())?;
-    for (slot, word) in votes.split(' ').enumerate() {
-        for (cell, vote) in word.bytes().enumerate() {
-            let slot = u32::try_from(slot).map_err(|_| "too many slots")?;
-            let cell = u32::try_from(cell).map_err(|_| "too many cells")?;
-            if !has_room(&pattern, slot, cell) {
-                return Err("no such node".into());
-            }
-            if vote == b'1' {
-                pattern.set(slot, cell);
-            }
-        }
-    }
+    put_votes(&mut pattern, votes)?;
     Ok(pattern)
+}
+
+// A plan's own pattern for a dash, else one with these votes.
+fn pattern_of(alloc: Global, plan: &Plan, rows: &DepRows, votes: &str) -> Result<Pattern, Fail> {
+    if votes == "-" {
+        Ok(Pattern::of(alloc, plan)?)
+    } else {
+        pattern_with(alloc, rows, votes)
+    }
+}
+
+fn parts_of(alloc: Global, plan: &Plan, votes: &str) -> Result<(DepRows, Pattern), Fail> {
+    let rows = DepRows::build(alloc, plan)?;
+    let pattern = pattern_of(alloc, plan, &rows, votes)?;
+    Ok((rows, pattern))
 }
 
 /// The rows of a plan, and its own pattern for a dash, else one with these votes.
@@ -79,25 +117,25 @@ pub fn rows_and_pattern(
     votes: &str,
 ) -> Result<(DepRows, Pattern), Fail> {
     let plan = plan_named(alloc, name)?;
-    let rows = DepRows::build(alloc, &plan)?;
-    let pattern = if votes == "-" {
-        Pattern::of(alloc, &plan)?
-    } else {
-        pattern_with(alloc, &rows, votes)?
-    };
-    Ok((rows, pattern))
+    parts_of(alloc, &plan, votes)
+}
+
+// A slot's votes, parted by a space from those of the slot before.
+fn show_slot(text: &mut String, pattern: &Pattern, slot: u32) -> Result<(), AllocError>
+    requires { slot < pattern.now.slots }
+{
+    text.push_str(if slot == 0 { "" } else { " " })?;
+    for cell in 0..pattern.cells() {
+        text.push_str(if pattern.has(slot, cell) { "1" } else { "0" })?;
+    }
+    Ok(())
 }
 
 /// A pattern as it stands in the tables.
-pub fn votes_of(alloc: Global, pattern: &Pattern) -> Result<String, Fail> {
+pub fn votes_of(alloc: Global, pattern: &Pattern) -> Result<String, AllocError> {
     let mut text = String::new(alloc);
     for slot in 0..pattern.slots() {
-        if 0 < slot {
-            text.push_str(" ")?;
-        }
-        for cell in 0..pattern.cells() {
-            text.push_str(if pattern.has(slot, cell) { "1" } else { "0" })?;
-        }
+        show_slot(&mut text, pattern, slot)?;
     }
     Ok(text)
 }
