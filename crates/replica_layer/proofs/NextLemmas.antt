@@ -1,5 +1,5 @@
 -- What the steps of a frame leave is the next state.
-use Rattle.std.proofs.Common.{◌≡◌, ℕ, ◌<◌, Bool, List, [], map, length, get_or, Option, None, option_map, refl, sym, ap, ap₂, subst, ◌∙◌, inl, inr, arith, ℤ, pos, nat_eq, Vec}
+use Rattle.std.proofs.Common.{cond, ◌≡◌, ℕ, ◌<◌, Bool, List, [], map, length, get_or, Option, None, option_map, refl, sym, ap, ap₂, subst, ◌∙◌, inl, inr, arith, ℤ, pos, nat_eq, Vec}
 use Rattle.std.proofs.lemmas.Bool.{cases_Bool, cond-true, cond-false}
 use Rattle.std.proofs.lemmas.List.{get_or-map, length-map}
 use Rattle.std.specs.Global.{Global}

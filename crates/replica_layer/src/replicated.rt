@@ -1,7 +1,9 @@
 //! The replicas in one step.
 //! After NASA TM-102716.
-ghost use Rattle.std.specs.Prelude.{◌≡◌, ◌<◌, ℕ, ℤ, IfOk, List, length, slice_index_or, Option, None};
+ghost use Rattle.std.specs.Prelude.{◌≡◌, ◌<◌, [], IfOk, None, slice_index_or};
 ghost use Rattle.rcp_model.specs.System.{initial_state};
+ghost use Rattle.replica_parts.specs.Places as places;
+ghost use Rattle.replica_parts.specs.Rooms.{AreCommandRows};
 ghost use Rattle.replica_layer.specs.State.{IsAt};
 
 use crate::frames::run_frame;
@@ -88,7 +90,7 @@ impl Layer for Replicated {
     }
 
     fn command(&self, replica: u32, actuator: u32) -> Option<i64> {
-        command_at(self.commands.as_slice(), replica, actuator)
+        command_at(&self.setting, self.commands.as_slice(), replica, actuator)
     }
 
     fn heard_slot(&self, to: u32, from: u32) -> Option<u32> {
@@ -108,12 +110,18 @@ impl Layer for Replicated {
     }
 }
 
-// The command in a row at an actuator's place.
-fn command_at(rows: &[Vec<Option<i64>>], replica: u32, actuator: u32) -> Option<i64>
-    requires { (replicas : ℕ) × (actuators : ℕ) × (commands : ℕ → ℕ → Option ℤ)
-        × (places.command_rows rows.now ≡ table replicas (λ replica. table actuators (commands replica)))
-        × (replica < replicas) × (actuator < actuators) }
-    ensures { result ≡ slice_index_or (slice_index_or (places.command_rows rows.now) replica []) actuator None }
+// The command in the row of a replica at an actuator's place.
+fn command_at(
+    setting: &Setting,
+    rows: &[Vec<Option<i64>>],
+    replica: u32,
+    actuator: u32,
+) -> Option<i64>
+    requires room { AreCommandRows setting.now rows.now }
+    requires replica { replica < setting.now.replicas }
+    requires actuator { actuator < setting.now.actuators }
+    ensures { result ≡ slice_index_or
+        (slice_index_or (places.command_rows rows.now) replica []) actuator None }
 {
     rows[replica as usize][actuator as usize]
 }
