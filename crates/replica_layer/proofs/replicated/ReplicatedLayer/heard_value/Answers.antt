@@ -2,8 +2,8 @@ use Rattle.std.proofs.Common.{◌<◌, arith}
 use Rattle.replica_layer.proofs.AtLemmas.{ballot_is, ballot_room}
 use Rattle.replica_layer.proofs.replicated.ReplicatedLayer.heard_value.Goals as goal
 
-pub heard_value-requires-clause-room : goal.heard_value-requires-clause-room
-heard_value-requires-clause-room c =
+pub heard_value-requires : goal.heard_value-requires
+heard_value-requires c =
     let h = c.requires.2 in
     let from : c.args.from < c.args.self.now.setting.replicas = omega (arith, c.requires.4, h.setting.replicas) in
     let cell : c.args.cell < c.args.self.now.setting.cells = omega (arith, c.requires.5, h.setting.cells) in
