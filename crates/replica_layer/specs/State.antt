@@ -32,6 +32,6 @@ pub record IsAt (layer : Replicated) (plan : PlanParts) (state : SystemState) : 
   pub replicas : layer.held.items ≡ table plan.replicas state.replicas
   pub ballots : AreBallots plan.replicas layer.ballots.items state.ballots
   pub commands : command_rows layer.commands.items
-    ≡ table plan.replicas (λ replica. table (length plan.actuators) (state.commands replica))
+      ≡ table plan.replicas (λ replica. table (length plan.actuators) (state.commands replica))
   pub letters : letter_rows layer.letters.items
-    ≡ table plan.replicas (λ receiver. table plan.replicas (state.letters receiver))
+      ≡ table plan.replicas (λ receiver. table plan.replicas (state.letters receiver))

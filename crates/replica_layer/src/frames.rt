@@ -13,7 +13,9 @@ ghost use Rattle.replica_layer.specs.State.{HaveRoom, IsAt};
 use crate::replicated::Replicated;
 use layer_stack::FrameIn;
 use replica_parts::laws::votes_of_a_pattern_are_the_plans;
-use replica_parts::{command_all, compute_all, hold_all, keep_all, vote_all, write_owns, write_rows};
+use replica_parts::{
+    command_all, compute_all, hold_all, keep_all, vote_all, write_owns, write_rows,
+};
 
 // Runs a frame up to what the replicas hold: they compute, say it to each other, hear, vote and sync, and rows overwrite.
 fn vote_and_hold(layer: &mut Replicated, input: &FrameIn)

@@ -12,8 +12,10 @@ use layer_stack::{FrameIn, Layer};
 use mailbox::Message;
 use rcp_base::Memory;
 use rcp_model::Plan;
-use replica_parts::{Ballot, Held, Post, Setting};
-use replica_parts::{ballots, command_rows, initial_states, messages, post_rows, vote_places};
+use replica_parts::{
+    Ballot, Held, Post, Setting, ballots, command_rows, initial_states, messages, post_rows,
+    vote_places,
+};
 use std::alloc::Global;
 use vote_pattern::Pattern;
 

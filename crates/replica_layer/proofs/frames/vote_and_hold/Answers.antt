@@ -16,10 +16,10 @@ pub returns-clause-fresh : goal.returns-clause-fresh
 returns-clause-fresh c = λ plan state h f.
     let votes_are = c.votes_of_a_pattern_are_the_plans.ensures plan c.args.layer.now.votes h.setting.rules h.votes in
     let computed_is : c.as_slice-2.result.now ≡ map (state_after_compute plan c.args.input.now.sensors) c.args.layer.now.held.items =
-      c.as_slice-2.ensures.value ∙ c.compute_all.ensures.computed plan h.code
-      ∙ ap₂ (λ (s : List ℤ) (xs : List ProcessorState). map (state_after_compute plan s) xs) c.sensors.ensures c.as_slice.ensures.value in
+    c.as_slice-2.ensures.value ∙ c.compute_all.ensures.computed plan h.code
+    ∙ ap₂ (λ (s : List ℤ) (xs : List ProcessorState). map (state_after_compute plan s) xs) c.sensors.ensures c.as_slice.ensures.value in
     let own_is : c.as_slice-3.result.now ≡ map (message_of plan (is_in c.args.layer.now.votes)) c.as_slice-2.result.now =
-      c.as_slice-3.ensures.value ∙ c.write_owns.ensures.own plan h.setting in
+    c.as_slice-3.ensures.value ∙ c.write_owns.ensures.own plan h.setting in
     c.write_rows.ensures.letters plan h.setting
     ∙ ap (λ (n : ℕ). table plan.replicas (λ q. table plan.replicas (λ p. letter_to plan n c.args.input.now (get_or c.as_slice-3.result.now p no_content) p q))) h.done
     ∙ fresh_table plan c.args.input.now state (is_in c.args.layer.now.votes) c.args.layer.now.held.items c.as_slice-2.result.now c.as_slice-3.result.now votes_are h.replicas computed_is own_is
@@ -28,10 +28,10 @@ pub returns-clause-ballots : goal.returns-clause-ballots
 returns-clause-ballots c = λ plan state h f q d lt.
     let votes_are = c.votes_of_a_pattern_are_the_plans.ensures plan c.args.layer.now.votes h.setting.rules h.votes in
     let computed_is : c.as_slice-4.result.now ≡ map (state_after_compute plan c.args.input.now.sensors) c.args.layer.now.held.items =
-      c.as_slice-4.ensures.value ∙ c.compute_all.ensures.computed plan h.code
-      ∙ ap₂ (λ (s : List ℤ) (xs : List ProcessorState). map (state_after_compute plan s) xs) c.sensors.ensures c.as_slice.ensures.value in
+    c.as_slice-4.ensures.value ∙ c.compute_all.ensures.computed plan h.code
+    ∙ ap₂ (λ (s : List ℤ) (xs : List ProcessorState). map (state_after_compute plan s) xs) c.sensors.ensures c.as_slice.ensures.value in
     let own_is : c.as_slice-5.result.now ≡ map (message_of plan (is_in c.args.layer.now.votes)) c.as_slice-4.result.now =
-      c.as_slice-5.ensures.value ∙ c.write_owns.ensures.own plan h.setting ∙ ap (map (message_of plan (is_in c.args.layer.now.votes))) (c.as_slice-2.ensures.value ∙ sym c.as_slice-4.ensures.value) in
+    c.as_slice-5.ensures.value ∙ c.write_owns.ensures.own plan h.setting ∙ ap (map (message_of plan (is_in c.args.layer.now.votes))) (c.as_slice-2.ensures.value ∙ sym c.as_slice-4.ensures.value) in
     ballot_next plan c.args.input.now state (is_in c.args.layer.now.votes) c.args.layer.now.held.items c.as_slice-4.result.now c.as_slice-5.result.now votes_are h.replicas computed_is own_is
     (post_at c.as_slice-6.result.now) (post_at c.as_slice-7.result.now)
     (λ r p below inside. post_is c.as_slice-6.result.now plan.replicas (fresh_letter plan state c.args.input.now) r p (ap letter_rows c.as_slice-6.ensures.value ∙ returns-clause-fresh c plan state h f) below inside)

@@ -13,7 +13,7 @@ cell-requires c =
     let held = c.args.self.now.held.items in
     let inside : c.args.replica < length held = omega (arith, c.requires.3, h.room.held.size, h.setting.replicas) in
     let room : HasCells setting c.index.result.now =
-      subst (HasCells setting) (sym c.index.ensures) (All-get_or (HasCells setting) held c.args.replica c.index.result.now inside h.room.held.each) in
+    subst (HasCells setting) (sym c.index.ensures) (All-get_or (HasCells setting) held c.args.replica c.index.result.now inside h.room.held.each) in
     omega (arith, c.requires.4, room, h.setting.cells)
 
 pub returns : goal.returns
