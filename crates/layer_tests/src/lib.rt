@@ -11,6 +11,8 @@ mod code;
 #[cfg(test)]
 mod messages;
 #[cfg(test)]
+mod replicas;
+#[cfg(test)]
 mod shown;
 #[cfg(test)]
 mod worked;
