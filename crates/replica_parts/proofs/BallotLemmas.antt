@@ -1,11 +1,11 @@
 -- The vote of one replica, place by place.
-use Rattle.std.proofs.Common.{◌≡◌, ℕ, ◌≤◌, ◌<◌, List, map, length, get_or, Option, Some, None, unwrap_or, option_map, refl, sym, ap, ◌∙◌, ℤ, pos, nat_eq, nat_abs, cond, Bool, arith}
+use Rattle.std.proofs.Common.{◌≡◌, ℕ, ◌≤◌, ◌<◌, List, map, length, get_or, Option, Some, None, unwrap_or, option_map, refl, sym, ap, ◌∙◌, ℤ, pos, nat_eq, nat_abs, Bool, arith}
 use Rattle.std.specs.Ordering.{int_eq}
 use Rattle.std.specs.Option.{option_and_then}
 use Rattle.std.proofs.lemmas.Option.{none-some, same_Some}
 use Rattle.std.proofs.lemmas.List.{get_or-map, length-map, ext_get_or}
 use Rattle.rcp_base.specs.Majority.{majority_of, voted_value}
-use Rattle.rcp_base.specs.Message.{Content, value_in}
+use Rattle.rcp_base.specs.Message.{Content}
 use Rattle.rcp_base.specs.Tables.{table}
 use Rattle.rcp_base.proofs.TableLaws.{get_or-table, length-table}
 use Rattle.rcp_model.specs.declared.plan.PlanParts.{PlanParts}
@@ -18,10 +18,9 @@ use Rattle.rcp_model.specs.FrameRows.{FrameRows, is_down}
 use Rattle.rcp_model.specs.Messages.{Letter}
 use Rattle.rcp_model.specs.Uniprocessor.{ProcessorState}
 use Rattle.rcp_model.specs.Ballot.{slots_heard, values_heard, taken_slot, is_median, voted_cell, voted_cells, ballot_of}
-use Rattle.rcp_base.specs.Median.{chosen_value}
 use Rattle.rcp_base.proofs.MajorityLaws.{majority_pos}
 use Rattle.rcp_base.specs.Filling.{Filled}
-use Rattle.rcp_base.proofs.FillLaws.{table_agree, is_table}
+use Rattle.rcp_base.proofs.FillLaws.{is_table}
 use Rattle.replica_parts.specs.declared.post.Post.{Post}
 use Rattle.replica_parts.specs.declared.ballot.Heard.{Heard}
 use Rattle.replica_parts.specs.declared.ballot.Ballot.{Ballot}
@@ -61,21 +60,6 @@ slots_are plan heard old places n i e filled le =
     (λ k below. let lt : k < plan.replicas = omega (arith, below, filled.size, e) in
     filled.done k (omega (arith, lt, e, le)) ∙ pos_of (heard k)
     ∙ sym (get_or-map (option_map pos) (slots_heard plan heard) k None None (omega (arith, lt, length-table plan.replicas (λ sender. option_map (λ (message : Content). message.slot) (heard sender)))) ∙ ap (option_map pos) (get_or-table plan.replicas (λ sender. option_map (λ (message : Content). message.slot) (heard sender)) k None lt)))
-
--- what is heard of the senders that there are decides the vote
-module _ (plan : PlanParts) (heard other : ℕ → Option Content) (same : (sender : ℕ) → sender < plan.replicas → heard sender ≡ other sender) where
-  pub taken_same : (slot : ℕ) → taken_slot plan slot heard ≡ taken_slot plan slot other
-  unfolding taken_slot
-  taken_same slot = ap (λ (xs : List (Option ℕ)). voted_value nat_eq xs slot)
-      (table_agree plan.replicas (λ sender. option_map (λ (message : Content). message.slot) (heard sender)) (λ sender. option_map (λ (message : Content). message.slot) (other sender)) None (λ k lt. ap (option_map (λ (message : Content). message.slot)) (same k lt)))
-
-  values_same : (cell : ℕ) → values_heard plan heard cell ≡ values_heard plan other cell
-  values_same cell = table_agree plan.replicas (λ sender. option_and_then (λ message. value_in message cell) (heard sender)) (λ sender. option_and_then (λ message. value_in message cell) (other sender)) None (λ k lt. ap (option_and_then (λ message. value_in message cell)) (same k lt))
-
-  pub cells_same : (votes : ℕ → ℕ → Bool) (taken : ℕ) (computed : List ℤ) → voted_cells plan votes taken heard computed ≡ voted_cells plan votes taken other computed
-  unfolding voted_cells voted_cell
-  cells_same votes taken computed = table_agree (length plan.cells) _ _ (pos 0)
-      (λ c lt. ap (λ (xs : List (Option ℤ)). cond (votes taken c) (chosen_value (is_median plan c) xs (get_or computed c (pos 0))) (get_or computed c (pos 0))) (values_same c))
 
 -- what a replica that is down or up does
 module _ (plan : PlanParts) (votes : ℕ → ℕ → Bool) (rows : FrameRows) (receiver : ℕ) (computed : ProcessorState) (heard : ℕ → Option Content) (place : Ballot) where
@@ -117,19 +101,6 @@ ballot_read plan votes frame rows receiver place a b m n xs ys us vs e f g h t =
     (subst (λ (z : List (Option Letter)). IsBallotOrNone plan.replicas place (ballot_now plan votes rows receiver b (heard_by plan frame rows receiver n (λ k. get_or z k None) (λ k. get_or us k None)))) g
     (subst (λ (z : Content). IsBallotOrNone plan.replicas place (ballot_now plan votes rows receiver b (heard_by plan frame rows receiver z (λ k. get_or xs k None) (λ k. get_or us k None)))) f
     (subst (λ (z : ProcessorState). IsBallotOrNone plan.replicas place (ballot_now plan votes rows receiver z (heard_by plan frame rows receiver m (λ k. get_or xs k None) (λ k. get_or us k None)))) e t)))
-
--- a ballot over what is heard of the senders that there are
-pub ballot_agrees : (plan : PlanParts) (votes : ℕ → ℕ → Bool) (slot : ℕ) (computed : List ℤ) (place : Ballot) (heard other : ℕ → Option Content)
-    → ((sender : ℕ) → sender < plan.replicas → heard sender ≡ other sender)
-    → IsBallot plan.replicas place (ballot_of plan votes slot computed heard) → IsBallot plan.replicas place (ballot_of plan votes slot computed other)
-unfolding ballot_of
-ballot_agrees plan votes slot computed place heard other same h =
-    let taken : taken_slot plan slot heard ≡ taken_slot plan slot other = taken_same plan heard other same slot in
-    record {
-      heard = h.heard ∙ table_agree plan.replicas heard other None same;
-      taken = h.taken ∙ taken;
-      cells = h.cells ∙ cells_same plan heard other same votes (taken_slot plan slot heard) computed ∙ ap (λ s. voted_cells plan votes s other computed) taken;
-    }
 
 -- what is heard stands at its places
 pub heard_at : (n : ℕ) (places : List Heard) (heard : ℕ → Option Content) → messages_in places ≡ table n heard → (sender : ℕ) → sender < n → message_at places sender ≡ heard sender

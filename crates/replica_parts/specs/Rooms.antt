@@ -51,8 +51,8 @@ ArePostRows setting rows =
     AreEach setting.replicas (λ (row : Vec Post Global). ArePosts setting row.items) rows
 
 -- a place for a vote of each replica
-abbrev pub AreVotes : Setting → List (Option ℤ) → Type 0
-AreVotes setting places = length places ≡ setting.replicas
+abbrev pub AreVotePlaces : Setting → List (Option ℤ) → Type 0
+AreVotePlaces setting places = length places ≡ setting.replicas
 
 -- a ballot has places for what is heard of each sender, and for each cell
 pub record HasBallotRoom (setting : Setting) (place : Ballot) : Type 0 where

@@ -17,8 +17,8 @@ use std::alloc::Global;
 /// A place for a message that was heard, and whether one stands there.
 #[derive(Debug, Drop)]
 pub struct Heard {
-    pub(crate) present: bool,
-    pub(crate) message: Message,
+    pub present: bool,
+    pub message: Message,
 }
 
 impl Heard {
@@ -61,12 +61,14 @@ impl Heard {
 /// What a replica heard of each sender, the slot that it took and its cells after the vote, or that it did not vote.
 #[derive(Debug, Drop)]
 pub struct Ballot {
-    // Whether it voted.
-    pub(crate) up: bool,
-    // By sender.
-    pub(crate) heard: Vec<Heard>,
-    pub(crate) taken: u32,
-    pub(crate) cells: Vec<i64>,
+    /// Whether it voted.
+    pub up: bool,
+    /// By sender.
+    pub heard: Vec<Heard>,
+    /// The slot taken.
+    pub taken: u32,
+    /// The cells after the vote.
+    pub cells: Vec<i64>,
 }
 
 impl Ballot {

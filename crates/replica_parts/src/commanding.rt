@@ -1,6 +1,6 @@
 //! What replicas command.
 //! After NASA TM-102716.
-ghost use Rattle.std.specs.Prelude.{◌≡◌, ◌<◌, ℕ, Option, length, option_map};
+ghost use Rattle.std.specs.Prelude.{◌≡◌, ◌<◌, ℕ, ℤ, Option, length, option_map};
 ghost use Rattle.frame_table.specs.Plan.{IsOf};
 ghost use Rattle.rcp_base.specs.Tables as tables;
 ghost use Rattle.rcp_model.specs.declared.plan.PlanParts.{PlanParts};
@@ -11,6 +11,7 @@ ghost use Rattle.replica_parts.specs.Ballots.{AreBallots, IsBallotOrNone};
 ghost use Rattle.replica_parts.specs.Places as places;
 ghost use Rattle.replica_parts.specs.Rooms.{AreCommandRows, HaveBallotRoom};
 ghost use Rattle.replica_parts.specs.Setting.{HasPlanWith, IsSettingOf};
+ghost use Rattle.replica_parts.specs.declared.setting.Setting.{Setting};
 
 use crate::ballot::Ballot;
 use crate::setting::Setting;
@@ -75,6 +76,18 @@ pub fn command_row(
     for actuator in 0..setting.actuators {
         row[actuator as usize] = command_one(table, input, replica, actuator, ballot);
     }
+}
+
+/// A replica's command for an actuator, of all commands.
+pub fn command_at(rows: &[Vec<Option<i64>>], replica: u32, actuator: u32) -> Option<i64>
+    requires { (setting : Setting) × AreCommandRows setting rows.now
+        × (replica < setting.replicas) × (actuator < setting.actuators) }
+    ensures { (replicas actuators : ℕ) (commands : ℕ → ℕ → Option ℤ)
+        → places.command_rows rows.now
+        ≡ tables.table replicas (λ number. tables.table actuators (commands number))
+        → replica < replicas → actuator < actuators → result ≡ commands replica actuator }
+{
+    rows[replica as usize][actuator as usize]
 }
 
 /// The commands of all replicas, by replica and actuator. Takes no memory.

@@ -17,7 +17,7 @@ mod setting;
 mod voting;
 
 pub use ballot::{Ballot, Heard};
-pub use commanding::{command_all, command_one, command_row, evaluated};
+pub use commanding::{command_all, command_at, command_one, command_row, evaluated};
 pub use computing::{compute, compute_all, write_own, write_owns};
 pub use hearing::{arrival_of, hear, hear_all, take_message};
 pub use held::Held;

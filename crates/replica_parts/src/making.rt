@@ -8,7 +8,7 @@ ghost use Rattle.rcp_model.specs.System.{initial_state};
 ghost use Rattle.replica_parts.specs.Ballots.{AreBallots};
 ghost use Rattle.replica_parts.specs.Places as places;
 ghost use Rattle.replica_parts.specs.Places.{letter_rows, letters_in};
-ghost use Rattle.replica_parts.specs.Rooms.{AreCommandRows, AreMessages, ArePostRows, ArePosts, AreStates, AreVotes, HaveBallotRoom};
+ghost use Rattle.replica_parts.specs.Rooms.{AreCommandRows, AreMessages, ArePostRows, ArePosts, AreStates, AreVotePlaces, HaveBallotRoom};
 ghost use Rattle.replica_parts.specs.Setting.{IsSettingOf};
 ghost use Rattle.replica_parts.specs.declared.setting.Setting.{Setting};
 
@@ -119,7 +119,7 @@ pub fn command_rows(alloc: Global, setting: &Setting) -> Result<Vec<Vec<Option<i
 
 /// A place for a vote of each replica.
 pub fn vote_places(alloc: Global, setting: &Setting) -> Result<Vec<Option<i64>>, Memory>
-    ensures { IfOk result (λ places. AreVotes setting.now places.items) }
+    ensures { IfOk result (λ places. AreVotePlaces setting.now places.items) }
 {
     Ok(vec![in alloc; None; setting.replicas as usize]?)
 }

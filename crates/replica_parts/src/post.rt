@@ -10,9 +10,10 @@ use std::alloc::Global;
 /// A place for a letter on its way, and whether one stands there.
 #[derive(Debug, Drop)]
 pub struct Post {
-    pub(crate) present: bool,
-    pub(crate) arrival: i64,
-    pub(crate) message: Message,
+    pub present: bool,
+    /// The tick at which it arrives.
+    pub arrival: i64,
+    pub message: Message,
 }
 
 impl Post {

@@ -10,7 +10,7 @@ ghost use Rattle.rcp_model.specs.Ballot.{ballot_of, slots_heard, taken_slot, val
 ghost use Rattle.vote_pattern.specs.Votes.{is_in};
 ghost use Rattle.replica_parts.specs.Ballots.{AreBallots, AreSlotNumbers, IsBallot, IsBallotOrNone, IsSlotNumber, ballot_now, heard_by};
 ghost use Rattle.replica_parts.specs.Places.{letter_at, message_at, message_in, post_at};
-ghost use Rattle.replica_parts.specs.Rooms.{AreHeard, AreMessages, ArePostRows, ArePosts, AreStates, AreVotes, HasBallotRoom, HasCells, HasRoom, HaveBallotRoom};
+ghost use Rattle.replica_parts.specs.Rooms.{AreHeard, AreMessages, ArePostRows, ArePosts, AreStates, AreVotePlaces, HasBallotRoom, HasCells, HasRoom, HaveBallotRoom};
 ghost use Rattle.replica_parts.specs.Setting.{HasPlan, HasPlanWith, IsSettingOf};
 ghost use Rattle.replica_parts.specs.States.{no_content, no_state};
 
@@ -29,10 +29,10 @@ use vote_pattern::Pattern;
 pub fn take_slot(setting: &Setting, heard: &[Heard], own: u32, places: &mut Vec<Option<i64>>) -> u32
     requires of { HasPlan setting.now }
     requires heard { AreHeard setting.now heard.now }
-    requires places { AreVotes setting.now places.old.items }
+    requires places { AreVotePlaces setting.now places.old.items }
     ensures taken { (plan : PlanParts) → IsSettingOf plan setting.now
         → result ≡ taken_slot plan own (message_at heard.now) }
-    ensures places { AreVotes setting.now places.new.items }
+    ensures places { AreVotePlaces setting.now places.new.items }
 {
     name_slots(setting, heard, places);
     voted_slot(places.as_slice(), own)
@@ -41,11 +41,11 @@ pub fn take_slot(setting: &Setting, heard: &[Heard], own: u32, places: &mut Vec<
 // Puts the slots that heard messages name into places.
 fn name_slots(setting: &Setting, heard: &[Heard], places: &mut Vec<Option<i64>>)
     requires heard { AreHeard setting.now heard.now }
-    requires places { AreVotes setting.now places.old.items }
+    requires places { AreVotePlaces setting.now places.old.items }
     ensures slots { (plan : PlanParts) → IsSettingOf plan setting.now
         → places.new.items ≡ map (option_map pos) (slots_heard plan (message_at heard.now)) }
     ensures small { AreSlotNumbers places.new.items }
-    ensures places { AreVotes setting.now places.new.items }
+    ensures places { AreVotePlaces setting.now places.new.items }
 {
     for sender in 0..setting.replicas {
         let number = sender as usize;
@@ -103,10 +103,10 @@ pub fn vote_cell(
     requires of { HasPlan setting.now }
     requires cell { cell < setting.now.cells }
     requires heard { AreHeard setting.now heard.now }
-    requires places { AreVotes setting.now places.old.items }
+    requires places { AreVotePlaces setting.now places.old.items }
     ensures value { (plan : PlanParts) → IsSettingOf plan setting.now → result
         ≡ voted_cell plan (is_in votes.now) taken (message_at heard.now) cell computed }
-    ensures places { AreVotes setting.now places.new.items }
+    ensures places { AreVotePlaces setting.now places.new.items }
 {
     if has_vote(votes, taken, cell) {
         name_values(setting, heard, cell, places);
@@ -120,10 +120,10 @@ pub fn vote_cell(
 fn name_values(setting: &Setting, heard: &[Heard], cell: u32, places: &mut Vec<Option<i64>>)
     requires cell { cell < setting.now.cells }
     requires heard { AreHeard setting.now heard.now }
-    requires places { AreVotes setting.now places.old.items }
+    requires places { AreVotePlaces setting.now places.old.items }
     ensures values { (plan : PlanParts) → IsSettingOf plan setting.now
         → places.new.items ≡ values_heard plan (message_at heard.now) cell }
-    ensures places { AreVotes setting.now places.new.items }
+    ensures places { AreVotePlaces setting.now places.new.items }
 {
     for sender in 0..setting.replicas {
         let number = sender as usize;
@@ -146,11 +146,11 @@ pub fn vote_cells(
     requires heard { AreHeard setting.now heard.now }
     requires computed { length computed.now ≡ setting.now.cells }
     requires cells { length cells.old.items ≡ setting.now.cells }
-    requires places { AreVotes setting.now places.old.items }
+    requires places { AreVotePlaces setting.now places.old.items }
     ensures cells { (plan : PlanParts) → IsSettingOf plan setting.now → cells.new.items
         ≡ voted_cells plan (is_in votes.now) taken (message_at heard.now) computed.now }
     ensures size { length cells.new.items ≡ setting.now.cells }
-    ensures places { AreVotes setting.now places.new.items }
+    ensures places { AreVotePlaces setting.now places.new.items }
 {
     for cell in 0..setting.cells {
         let number = cell as usize;
@@ -180,14 +180,14 @@ pub fn vote(
     requires own { HasRoom setting.now own.now }
     requires fresh { ArePosts setting.now fresh.now }
     requires late { ArePosts setting.now late.now }
-    requires places { AreVotes setting.now places.old.items }
+    requires places { AreVotePlaces setting.now places.old.items }
     requires room { HasBallotRoom setting.now ballot.old }
     ensures ballot { (plan : PlanParts) → IsSettingOf plan setting.now → IsBallot plan.replicas
         ballot.new (ballot_of plan (is_in votes.now) slot computed.now
         (heard_by plan frame input.now receiver own.now
         (letter_at fresh.now) (letter_at late.now))) }
     ensures up { ballot.new.up ≡ true }
-    ensures places { AreVotes setting.now places.new.items }
+    ensures places { AreVotePlaces setting.now places.new.items }
     ensures room { HasBallotRoom setting.now ballot.new }
 {
     hear_all(
@@ -214,14 +214,14 @@ pub fn vote_heard(
 )
     requires of { HasPlan setting.now }
     requires computed { length computed.now ≡ setting.now.cells }
-    requires places { AreVotes setting.now places.old.items }
+    requires places { AreVotePlaces setting.now places.old.items }
     requires room { HasBallotRoom setting.now ballot.old }
     ensures ballot { (plan : PlanParts) → IsSettingOf plan setting.now → IsBallot plan.replicas
         ballot.new (ballot_of plan (is_in votes.now) slot computed.now
         (message_at ballot.old.heard.items)) }
     ensures heard { ballot.new.heard ≡ ballot.old.heard }
     ensures up { ballot.new.up ≡ true }
-    ensures places { AreVotes setting.now places.new.items }
+    ensures places { AreVotePlaces setting.now places.new.items }
     ensures room { HasBallotRoom setting.now ballot.new }
 {
     ballot.taken = take_slot(setting, ballot.heard.as_slice(), slot, places);
@@ -258,14 +258,14 @@ pub fn vote_one(
     requires own { HasRoom setting.now own.now }
     requires fresh { ArePosts setting.now fresh.now }
     requires late { ArePosts setting.now late.now }
-    requires places { AreVotes setting.now places.old.items }
+    requires places { AreVotePlaces setting.now places.old.items }
     requires room { HasBallotRoom setting.now ballot.old }
     ensures ballot { (plan : PlanParts) → IsSettingOf plan setting.now
         → IsBallotOrNone plan.replicas ballot.new
         (ballot_now plan (is_in votes.now) input.now receiver computed.now
         (heard_by plan frame input.now receiver own.now
         (letter_at fresh.now) (letter_at late.now))) }
-    ensures places { AreVotes setting.now places.new.items }
+    ensures places { AreVotePlaces setting.now places.new.items }
     ensures room { HasBallotRoom setting.now ballot.new }
 {
     if input.down(receiver) {
@@ -307,7 +307,7 @@ pub fn vote_all(
     requires own { AreMessages setting.now own.now }
     requires fresh { ArePostRows setting.now fresh.now }
     requires late { ArePostRows setting.now late.now }
-    requires places { AreVotes setting.now places.old.items }
+    requires places { AreVotePlaces setting.now places.old.items }
     requires room { HaveBallotRoom setting.now ballots.old.items }
     ensures ballots { (plan : PlanParts) → IsSettingOf plan setting.now
         → AreBallots plan.replicas ballots.new.items (λ replica.
@@ -315,7 +315,7 @@ pub fn vote_all(
         (slice_index_or computed.now replica no_state)
         (heard_by plan frame input.now replica (slice_index_or own.now replica no_content)
         (post_at fresh.now replica) (post_at late.now replica))) }
-    ensures places { AreVotes setting.now places.new.items }
+    ensures places { AreVotePlaces setting.now places.new.items }
     ensures room { HaveBallotRoom setting.now ballots.new.items }
 {
     for receiver in 0..setting.replicas {

@@ -1,4 +1,5 @@
-use Rattle.replica_parts.proofs.BallotLemmas.{ballot_agrees, heard_at}
+use Rattle.replica_parts.proofs.BallotLaws.{ballot_agrees}
+use Rattle.replica_parts.proofs.BallotLemmas.{heard_at}
 use Rattle.replica_parts.specs.Ballots.{heard_by}
 use Rattle.replica_parts.specs.Places.{letter_at}
 use Rattle.vote_pattern.specs.Votes.{is_in}
