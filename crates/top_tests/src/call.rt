@@ -48,6 +48,15 @@ pub fn folder_of(alloc: Global, file: &[u8], journal: &[u8]) -> Result<MemFolder
     Ok(folder)
 }
 
+// The answer to this line is the one that is due.
+fn check_status(rt: &impl Abort, line: &str, status: &str, due: &str) {
+    assert_eq!(rt; status, due, "{line}");
+}
+
+fn check_text(rt: &impl Abort, line: &str, text: &[u8], due: &[u8]) {
+    assert_eq!(rt; text, due, "{line}");
+}
+
 /// Over this folder and into this sink, the words of the line end with this status, and write this text.
 pub fn check_call(
     rt: &impl Abort,
@@ -58,8 +67,8 @@ pub fn check_call(
     due: (&str, &str),
 ) -> Result<(), Fail> {
     let status = call(alloc, line, folder, out)?;
-    assert_eq!(rt; status, due.0, "{line}");
-    assert_eq!(rt; out.bytes(), due.1.as_bytes(), "{line}");
+    check_status(rt, line, status, due.0);
+    check_text(rt, line, out.bytes(), due.1.as_bytes());
     Ok(())
 }
 
@@ -74,4 +83,19 @@ pub fn check(
     let mut folder = folder_of(alloc, files.0, files.1)?;
     let mut out = MemSink::new(alloc);
     check_call(rt, alloc, line, &mut folder, &mut out, due)
+}
+
+/// The plan of the file of this case runs over the journal.
+pub fn check_runs(
+    rt: &impl Abort,
+    alloc: Global,
+    case: &str,
+    file: &str,
+    journal: &str,
+) -> Result<(), Fail> {
+    let mut folder = folder_of(alloc, file.as_bytes(), journal.as_bytes())?;
+    let mut out = MemSink::new(alloc);
+    let status = call(alloc, "ideal T J", &mut folder, &mut out)?;
+    check_status(rt, case, status, "0");
+    Ok(())
 }

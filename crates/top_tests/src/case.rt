@@ -1,9 +1,9 @@
-//! Cases as blocks of lines.
+//! Cases as blocks of lines, by small functions, since each is proved alone.
 //! This project's own.
 use crate::call::{check_call, folder_of};
 use crate::files::{TWO_FRAMES, file_named};
-use rcp_base::MemSink;
-use std::alloc::Global;
+use rcp_base::{MemFolder, MemSink};
+use std::alloc::{AllocError, Global};
 use std::process::Abort;
 use std::test::Fail;
 
@@ -18,10 +18,15 @@ struct Case {
     taken: u32,
 }
 
+fn number(text: &str) -> Result<u32, Fail> {
+    Ok(text.parse().map_err(|_| "no number")?)
+}
+
 impl Case {
-    fn new(alloc: Global, file: &str) -> Result<Case, Fail> {
+    fn new(alloc: Global, file: &str) -> Result<Case, AllocError> {
+        let file = String::from_str(alloc, file)?;
         Ok(Case {
-            file: String::from_str(alloc, file)?,
+            file,
             rows: String::new(alloc),
             due: String::new(alloc),
             failing_read: 0,
@@ -30,33 +35,58 @@ impl Case {
         })
     }
 
+    fn change(&mut self, alloc: Global, change: &str) -> Result<(), Fail> {
+        self.file = changed(alloc, self.file.as_str(), change)?;
+        Ok(())
+    }
+
+    fn fail_read(&mut self, read: &str) -> Result<(), Fail> {
+        self.failing_read = number(read)?;
+        Ok(())
+    }
+
+    fn fail_write(&mut self, write: &str) -> Result<(), Fail> {
+        let (write, taken) = write.split_once(" after ").unwrap_or((write, ""));
+        self.failing_write = number(write)?;
+        self.taken = number(taken)?;
+        Ok(())
+    }
+
     // Takes one more line of the block.
     fn take(&mut self, alloc: Global, line: &str) -> Result<(), Fail> {
         if let Some(change) = line.strip_prefix("| ") {
-            self.file = changed(alloc, self.file.as_str(), change)?;
+            self.change(alloc, change)
         } else if let Some(row) = line.strip_prefix(": ") {
-            put_line(&mut self.rows, row)?;
+            put_line(&mut self.rows, row)
         } else if let Some(read) = line.strip_prefix("! read ") {
-            self.failing_read = read.parse().map_err(|_| "no number")?;
+            self.fail_read(read)
         } else if let Some(write) = line.strip_prefix("! write ") {
-            let (write, taken) = write.split_once(" after ").ok_or("no bytes")?;
-            self.failing_write = write.parse().map_err(|_| "no number")?;
-            self.taken = taken.parse().map_err(|_| "no number")?;
+            self.fail_write(write)
         } else if let Some(front) = line.strip_prefix("> ") {
-            self.due.push_str(front)?;
+            Ok(self.due.push_str(front)?)
         } else {
-            put_line(&mut self.due, line)?;
+            put_line(&mut self.due, line)
         }
-        Ok(())
+    }
+
+    // The two files, with the call that fails.
+    fn folder(&self, alloc: Global) -> Result<MemFolder, Fail> {
+        let journal = journal_of(alloc, self.rows.as_str())?;
+        let mut folder = folder_of(alloc, self.file.as_bytes(), journal.as_bytes())?;
+        folder.fail_at(self.failing_read)?;
+        Ok(folder)
+    }
+
+    fn sink(&self, alloc: Global) -> Result<MemSink, Fail> {
+        let mut out = MemSink::new(alloc);
+        out.fail_at(self.failing_write, self.taken)?;
+        Ok(out)
     }
 
     // Makes the call with the words of this line.
     fn check(&self, rt: &impl Abort, alloc: Global, line: &str, status: &str) -> Result<(), Fail> {
-        let journal = journal_of(alloc, self.rows.as_str())?;
-        let mut folder = folder_of(alloc, self.file.as_bytes(), journal.as_bytes())?;
-        folder.fail_at(self.failing_read)?;
-        let mut out = MemSink::new(alloc);
-        out.fail_at(self.failing_write, self.taken)?;
+        let mut folder = self.folder(alloc)?;
+        let mut out = self.sink(alloc)?;
         let due = (status, self.due.as_str());
         check_call(rt, alloc, line, &mut folder, &mut out, due)
     }
@@ -70,21 +100,34 @@ pub fn put_line(text: &mut String, line: &str) -> Result<(), Fail> {
 }
 
 /// A journal with these rows, each with its line feed, and without any the one of two frames.
-pub fn journal_of(alloc: Global, rows: &str) -> Result<String, Fail> {
+pub fn journal_of(alloc: Global, rows: &str) -> Result<String, AllocError> {
     if rows.is_empty() {
-        Ok(String::from_str(alloc, TWO_FRAMES)?)
+        String::from_str(alloc, TWO_FRAMES)
     } else {
-        Ok(format!(in alloc; "frame,kind,a,b,c,d\n{rows}")?)
+        format!(in alloc; "frame,kind,a,b,c,d\n{rows}")
     }
+}
+
+/// What stands before the last arrow of a line, and what is due.
+pub fn parted(line: &str) -> (&str, &str) {
+    line.rsplit_once(" => ").unwrap_or((line, ""))
+}
+
+fn halves(change: &str) -> (&str, &str) {
+    change.split_once(" => ").unwrap_or((change, ""))
+}
+
+/// A file with a part in place of another.
+pub fn replaced(alloc: Global, file: &str, old: &str, new: &str) -> Result<String, Fail> {
+    let (before, after) = file.split_once(old).ok_or("no such part")?;
+    Ok(format!(in alloc; "{before}{new}{after}")?)
 }
 
 /// A file with a part in place of another, by `OLD => NEW`. A tilde is a line feed.
 pub fn changed(alloc: Global, file: &str, change: &str) -> Result<String, Fail> {
-    let (old, new) = change.split_once(" => ").ok_or("no change")?;
-    let old = old.replace(alloc, "~", "\n")?;
-    let new = new.replace(alloc, "~", "\n")?;
-    let (before, after) = file.split_once(old.as_str()).ok_or("no such part")?;
-    Ok(format!(in alloc; "{before}{}{after}", new.as_str())?)
+    let change = change.replace(alloc, "~", "\n")?;
+    let (old, new) = halves(change.as_str());
+    replaced(alloc, file, old, new)
 }
 
 /// The same with more than one change, which `&&` parts.
@@ -96,15 +139,23 @@ pub fn changed_often(alloc: Global, file: &str, changes: &str) -> Result<String,
     Ok(text)
 }
 
-fn check_block(rt: &impl Abort, alloc: Global, block: &str) -> Result<(), Fail> {
-    let mut lines = block.lines();
-    let head = lines.next().ok_or("no head")?;
-    let (status, rest) = head.split_once(' ').ok_or("no status")?;
-    let (name, words) = rest.split_once(' ').ok_or("no file")?;
+fn first_word(text: &str) -> (&str, &str) {
+    text.split_once(' ').unwrap_or((text, ""))
+}
+
+fn case_of(alloc: Global, name: &str, lines: &str) -> Result<Case, Fail> {
     let mut case = Case::new(alloc, file_named(name).ok_or("no such file")?)?;
-    for line in lines {
+    for line in lines.lines() {
         case.take(alloc, line)?;
     }
+    Ok(case)
+}
+
+fn check_block(rt: &impl Abort, alloc: Global, block: &str) -> Result<(), Fail> {
+    let (head, lines) = block.split_once('\n').unwrap_or((block, ""));
+    let (status, words) = first_word(head);
+    let (name, words) = first_word(words);
+    let case = case_of(alloc, name, lines)?;
     case.check(rt, alloc, words, status)
 }
 

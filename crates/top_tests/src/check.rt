@@ -1,9 +1,11 @@
 //! `check FILE`: votes, recovery length and walk, and the unvoted cycle for which a pattern is refused.
 //! This project's own.
 use crate::call::check;
-use crate::case::{changed_often, check_all};
+use crate::case::{changed_often, check_all, parted};
 use crate::files::TWO_FRAMES;
 use example_plans::MOTOR;
+use std::alloc::Global;
+use std::process::Abort;
 use std::test::Fail;
 
 // In the fourth, the names stand in the order of the cells, and not in that of the file. The fifth has the votes that
@@ -105,17 +107,26 @@ fn a_vote_pattern_is_analysed(rt: HostRuntime) -> Result<(), Fail> {
     check_all(&rt, rt.alloc(), CHECKED)
 }
 
+// No form runs over this file, whose pattern is refused with this text.
+fn check_refused(rt: &impl Abort, alloc: Global, file: &str, text: &str) -> Result<(), Fail> {
+    for line in FORMS.lines() {
+        let files = (file.as_bytes(), TWO_FRAMES.as_bytes());
+        check(rt, alloc, line, files, ("4", text))?;
+    }
+    Ok(())
+}
+
+fn check_cycle(rt: &impl Abort, alloc: Global, line: &str) -> Result<(), Fail> {
+    let (changes, cycle) = parted(line);
+    let file = changed_often(alloc, MOTOR, changes)?;
+    let text = format!(in alloc; "pattern refused: cycle {cycle}\n")?;
+    check_refused(rt, alloc, file.as_str(), text.as_str())
+}
+
 #[test]
 fn an_unvoted_cycle_is_refused(rt: HostRuntime) -> Result<(), Fail> {
-    let alloc = rt.alloc();
-    for change in MOTOR_CYCLES.lines() {
-        let (changes, cycle) = change.rsplit_once(" => ").ok_or("no cycle")?;
-        let file = changed_often(alloc, MOTOR, changes)?;
-        let text = format!(in alloc; "pattern refused: cycle {cycle}\n")?;
-        for line in FORMS.lines() {
-            let files = (file.as_bytes(), TWO_FRAMES.as_bytes());
-            check(&rt, alloc, line, files, ("4", text.as_str()))?;
-        }
+    for line in MOTOR_CYCLES.lines() {
+        check_cycle(&rt, rt.alloc(), line)?;
     }
     Ok(())
 }

@@ -10,7 +10,7 @@ use fault_journal::{Journal, JournalFault};
 use layer_stack::{FrameIn, Inputs, healthy};
 use rcp_base::Memory;
 use rcp_model::Plan;
-use std::alloc::Global;
+use std::alloc::{AllocError, Global};
 use std::process::Abort;
 use std::test::Fail;
 
@@ -102,115 +102,188 @@ fn begin_again(
     begin(alloc, plan, journal)
 }
 
-fn put(text: &mut String, item: &str) -> Result<(), Fail> {
-    text.push_str("; ")?;
-    text.push_str(item)?;
+// Puts what is so of a replica or a message.
+fn put_flag(
+    alloc: Global,
+    text: &mut String,
+    of: &str,
+    what: &str,
+    is: bool,
+) -> Result<(), AllocError> {
+    if is {
+        let item = format!(in alloc; "; {of} {what}")?;
+        text.push_str(item.as_str())?;
+    }
     Ok(())
 }
 
-// What the rows say of a replica.
+// Puts a value of a replica or a message, if there is one.
+fn put_value(
+    alloc: Global,
+    text: &mut String,
+    of: &str,
+    what: &str,
+    value: Option<i64>,
+) -> Result<(), AllocError> {
+    if let Some(value) = value {
+        let item = format!(in alloc; "; {of} {what} {value}")?;
+        text.push_str(item.as_str())?;
+    }
+    Ok(())
+}
+
+fn cell_name(alloc: Global, cell: u32) -> Result<String, AllocError> {
+    format!(in alloc; "cell {cell}")
+}
+
+fn put_cell(
+    alloc: Global,
+    text: &mut String,
+    of: &str,
+    cell: u32,
+    value: Option<i64>,
+) -> Result<(), AllocError> {
+    let name = cell_name(alloc, cell)?;
+    put_value(alloc, text, of, name.as_str(), value)
+}
+
+// A value other than that of a quiet frame.
+fn unlike(value: i64, quiet: i64) -> Option<i64> {
+    if value == quiet { None } else { Some(value) }
+}
+
+fn put_cells(
+    alloc: Global,
+    text: &mut String,
+    of: &str,
+    input: &FrameIn,
+    replica: u32,
+) -> Result<(), AllocError>
+    requires replica { replica < input.now.replicas }
+    requires cells { input.now.cells ≡ 3 }
+{
+    for cell in 0..3u32 {
+        put_cell(alloc, text, of, cell, input.cell(replica, cell))?;
+    }
+    Ok(())
+}
+
+fn put_lies(
+    alloc: Global,
+    text: &mut String,
+    of: &str,
+    input: &FrameIn,
+    from: u32,
+    to: u32,
+) -> Result<(), AllocError>
+    requires from { from < input.now.replicas }
+    requires to { to < input.now.replicas }
+    requires cells { input.now.cells ≡ 3 }
+{
+    for cell in 0..3u32 {
+        put_cell(alloc, text, of, cell, input.lie(from, to, cell))?;
+    }
+    Ok(())
+}
+
+// Puts what the rows say of a replica.
 fn put_replica(
     alloc: Global,
+    text: &mut String,
+    of: &str,
+    input: &FrameIn,
+    replica: u32,
+) -> Result<(), AllocError>
+    requires replica { replica < input.now.replicas }
+    requires cells { input.now.cells ≡ 3 }
+    requires actuators { input.now.actuators ≡ 1 }
+{
+    put_flag(alloc, text, of, "down", input.down(replica))?;
+    let slot = input.slot(replica).map(|slot| i64::from(slot));
+    put_value(alloc, text, of, "slot", slot)?;
+    put_cells(alloc, text, of, input, replica)?;
+    put_value(alloc, text, of, "act", input.act(replica, 0))?;
+    put_value(alloc, text, of, "skew", unlike(input.skew(replica), 0))?;
+    put_value(alloc, text, of, "rate", unlike(input.rate(replica), 0))
+}
+
+// Puts what the rows say of a message.
+fn put_message(
+    alloc: Global,
+    text: &mut String,
+    of: &str,
+    input: &FrameIn,
+    from: u32,
+    to: u32,
+) -> Result<(), AllocError>
+    requires from { from < input.now.replicas }
+    requires to { to < input.now.replicas }
+    requires cells { input.now.cells ≡ 3 }
+{
+    put_lies(alloc, text, of, input, from, to)?;
+    let slot = input.lieslot(from, to).map(|slot| i64::from(slot));
+    put_value(alloc, text, of, "slot", slot)?;
+    put_flag(alloc, text, of, "dropped", input.dropped(from, to))?;
+    put_value(alloc, text, of, "delay", unlike(input.delay(from, to), 100))
+}
+
+// Puts what the rows say of a replica's messages.
+fn put_messages(
+    alloc: Global,
+    text: &mut String,
+    input: &FrameIn,
+    from: u32,
+) -> Result<(), AllocError>
+    requires from { from < 3 }
+    requires replicas { input.now.replicas ≡ 3 }
+    requires cells { input.now.cells ≡ 3 }
+{
+    for to in 0..3u32 {
+        let of = format!(in alloc; "{from} to {to}")?;
+        put_message(alloc, text, of.as_str(), input, from, to)?;
+    }
+    Ok(())
+}
+
+// Puts whether a replica is healthy, and what the rows say of it.
+fn put_health(
+    alloc: Global,
+    text: &mut String,
     plan: &Plan,
     input: &FrameIn,
     replica: u32,
-    text: &mut String,
-) -> Result<(), Fail>
+) -> Result<(), AllocError>
     requires plan { IsOfMotor plan.now }
     requires rows { IsFrameOf plan.now input.now }
     requires replica { replica < 3 }
 {
-    if !healthy(plan, input, replica) {
-        put(text, format!(in alloc; "{replica} ill")?.as_str())?;
-    }
-    if input.down(replica) {
-        put(text, format!(in alloc; "{replica} down")?.as_str())?;
-    }
-    if let Some(slot) = input.slot(replica) {
-        put(text, format!(in alloc; "{replica} slot {slot}")?.as_str())?;
-    }
-    for cell in 0..3u32 {
-        if let Some(value) = input.cell(replica, cell) {
-            put(
-                text,
-                format!(in alloc; "{replica} cell {cell} {value}")?.as_str(),
-            )?;
-        }
-    }
-    if let Some(value) = input.act(replica, 0) {
-        put(text, format!(in alloc; "{replica} act {value}")?.as_str())?;
-    }
-    if input.skew(replica) != 0 {
-        put(
-            text,
-            format!(in alloc; "{replica} skew {}", input.skew(replica))?.as_str(),
-        )?;
-    }
-    if input.rate(replica) != 0 {
-        put(
-            text,
-            format!(in alloc; "{replica} rate {}", input.rate(replica))?.as_str(),
-        )?;
-    }
-    Ok(())
-}
-
-// What they say of a message.
-fn put_message(
-    alloc: Global,
-    plan: &Plan,
-    input: &FrameIn,
-    from: u32,
-    to: u32,
-    text: &mut String,
-) -> Result<(), Fail>
-    requires plan { IsOfMotor plan.now }
-    requires rows { IsFrameOf plan.now input.now }
-    requires from { from < 3 }
-    requires to { to < 3 }
-{
-    for cell in 0..3u32 {
-        if let Some(value) = input.lie(from, to, cell) {
-            put(
-                text,
-                format!(in alloc; "{from} to {to} cell {cell} {value}")?.as_str(),
-            )?;
-        }
-    }
-    if let Some(slot) = input.lieslot(from, to) {
-        put(
-            text,
-            format!(in alloc; "{from} to {to} slot {slot}")?.as_str(),
-        )?;
-    }
-    if input.dropped(from, to) {
-        put(text, format!(in alloc; "{from} to {to} dropped")?.as_str())?;
-    }
-    if input.delay(from, to) != 100 {
-        put(
-            text,
-            format!(in alloc; "{from} to {to} delay {}", input.delay(from, to))?.as_str(),
-        )?;
-    }
-    Ok(())
+    let of = format!(in alloc; "{replica}")?;
+    put_flag(
+        alloc,
+        text,
+        of.as_str(),
+        "ill",
+        !healthy(plan, input, replica),
+    )?;
+    put_replica(alloc, text, of.as_str(), input, replica)
 }
 
 // The value of the sensor, and then what is not as in a quiet frame.
-fn told(alloc: Global, plan: &Plan, input: &FrameIn) -> Result<String, Fail>
+fn told(alloc: Global, plan: &Plan, input: &FrameIn) -> Result<String, AllocError>
     requires plan { IsOfMotor plan.now }
     requires rows { IsFrameOf plan.now input.now }
 {
-    let mut text = String::new(alloc);
-    if let Some(value) = input.sensors().first() {
-        text.push_str(format!(in alloc; "{value}")?.as_str())?;
-    }
+    let sensor = input.sensors().first().copied().unwrap_or(0);
+    let mut text = format!(in alloc; "{sensor}")?;
     for replica in 0..3u32 {
-        put_replica(alloc, plan, input, replica, &mut text)?;
-        for to in 0..3u32 {
-            put_message(alloc, plan, input, replica, to, &mut text)?;
-        }
+        put_health(alloc, &mut text, plan, input, replica)?;
+        put_messages(alloc, &mut text, input, replica)?;
     }
     Ok(text)
+}
+
+fn check_told(rt: &impl Abort, told: &str, due: &str) {
+    assert_eq!(rt; told, due);
 }
 
 // Fills in the next frame, of which this is told.
@@ -228,7 +301,7 @@ fn check_next(
 {
     fill_next(rt, plan, journal, input);
     let text = told(alloc, plan, input)?;
-    assert_eq!(rt; text.as_str(), due);
+    check_told(rt, text.as_str(), due);
     Ok(())
 }
 
@@ -251,17 +324,48 @@ fn check_frames(
     Ok(())
 }
 
-// A journal with these rows has these frames, also when it begins again.
+fn check_done(rt: &impl Abort, done: u32, due: u32) {
+    assert_eq!(rt; done, due);
+}
+
+// These are all frames of a journal, also when it begins again.
+fn check_twice(
+    rt: &impl Abort,
+    alloc: Global,
+    plan: &Plan,
+    journal: &mut Journal,
+    input: &mut FrameIn,
+    frames: &str,
+) -> Result<(), Fail>
+    requires plan { IsOfMotor plan.now }
+    requires next { (history : History) × CanFillNext plan.now history journal.old input.old }
+{
+    check_frames(rt, alloc, plan, journal, input, frames)?;
+    check_done(rt, journal.done(), journal.frames());
+    let mut first = begin_again(alloc, plan, journal, &*input)?;
+    check_done(rt, journal.done(), 0);
+    check_frames(rt, alloc, plan, journal, &mut first, frames)
+}
+
+fn check_text(
+    rt: &impl Abort,
+    alloc: Global,
+    plan: &Plan,
+    text: &str,
+    frames: &str,
+) -> Result<(), Fail>
+    requires { IsOfMotor plan.now }
+{
+    let mut journal = Journal::check(alloc, plan, text.as_bytes())?;
+    let mut input = begin(alloc, plan, &journal)?;
+    check_twice(rt, alloc, plan, &mut journal, &mut input, frames)
+}
+
+// A journal with these rows has these frames.
 fn check_journal(rt: &impl Abort, alloc: Global, rows: &str, frames: &str) -> Result<(), Fail> {
     let plan = motor(rt, alloc)?;
     let text = journal_of(alloc, rows)?;
-    let mut journal = Journal::check(alloc, &plan, text.as_bytes())?;
-    let mut input = begin(alloc, &plan, &journal)?;
-    check_frames(rt, alloc, &plan, &mut journal, &mut input, frames)?;
-    assert_eq!(rt; journal.done(), journal.frames());
-    let mut first = begin_again(alloc, &plan, &mut journal, &input)?;
-    assert_eq!(rt; journal.done(), 0);
-    check_frames(rt, alloc, &plan, &mut journal, &mut first, frames)
+    check_text(rt, alloc, &plan, text.as_str(), frames)
 }
 
 #[test]
@@ -272,12 +376,15 @@ fn each_frame_has_its_rows(rt: HostRuntime) -> Result<(), Fail> {
     check_journal(&rt, alloc, "1,end,,,,\n", "0\n")
 }
 
+fn fault_of(alloc: Global, plan: &Plan, text: &str) -> Option<JournalFault> {
+    Journal::check(alloc, plan, text.as_bytes()).err()
+}
+
 #[test]
 fn a_row_that_is_repeated_is_a_fault(rt: HostRuntime) -> Result<(), Fail> {
-    let alloc = rt.alloc();
-    let plan = motor(&rt, alloc)?;
-    let text = journal_of(alloc, "0,down,1,,,\n0,down,1,,,\n1,end,,,,\n")?;
-    let fault = Journal::check(alloc, &plan, text.as_bytes()).err();
+    let plan = example_plans::motor(rt.alloc())?;
+    let text = journal_of(rt.alloc(), "0,down,1,,,\n0,down,1,,,\n1,end,,,,\n")?;
+    let fault = fault_of(rt.alloc(), &plan, text.as_str());
     assert_eq!(rt; fault, Some(JournalFault::Repeated { row: 2 }));
     Ok(())
 }

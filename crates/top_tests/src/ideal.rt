@@ -1,8 +1,10 @@
 //! `ideal FILE JOURNAL`: the run of one faultless processor.
 //! This project's own.
 use crate::call::check;
-use crate::case::{changed, check_all, journal_of};
+use crate::case::{check_all, parted, replaced};
 use example_plans::{COUNTER, MOTOR};
+use std::alloc::{AllocError, Global};
+use std::process::Abort;
 use std::test::Fail;
 
 // The motor's run, by hand from the tasks.
@@ -124,6 +126,9 @@ vote out 2
 ideal slot 0 cells 2
 end 2"#;
 
+// A journal of one frame.
+const ONE_FRAME: &str = "frame,kind,a,b,c,d\n1,end,,,,\n";
+
 // Values that the counter's body may give its cell, which has 0 before.
 const VALUES: &str = "7 - 4 - 2 => 1
 9223372036854775807 + 1 => 9223372036854775807
@@ -177,19 +182,23 @@ fn a_run_is_printed_frame_by_frame(rt: HostRuntime) -> Result<(), Fail> {
     check_all(&rt, rt.alloc(), RUNS)
 }
 
+// The text of one frame with this value.
+fn frame_text(alloc: Global, value: &str) -> Result<String, AllocError> {
+    format!(in alloc; "frame 0\nvote out {value}\nideal slot 0 cells {value}\nend 1\n")
+}
+
+fn check_value(rt: &impl Abort, alloc: Global, line: &str) -> Result<(), Fail> {
+    let (expression, value) = parted(line);
+    let file = replaced(alloc, COUNTER, "n + 1", expression)?;
+    let text = frame_text(alloc, value)?;
+    let files = (file.as_bytes(), ONE_FRAME.as_bytes());
+    check(rt, alloc, "ideal T J", files, ("0", text.as_str()))
+}
+
 #[test]
 fn expressions_have_their_values(rt: HostRuntime) -> Result<(), Fail> {
-    let alloc = rt.alloc();
-    let journal = journal_of(alloc, "1,end,,,,\n")?;
     for line in VALUES.lines() {
-        let (expression, value) = line.split_once(" => ").ok_or("no value")?;
-        let change = format!(in alloc; "n + 1 => {expression}")?;
-        let file = changed(alloc, COUNTER, change.as_str())?;
-        let text = format!(in alloc;
-            "frame 0\nvote out {value}\nideal slot 0 cells {value}\nend 1\n"
-        )?;
-        let files = (file.as_bytes(), journal.as_bytes());
-        check(&rt, alloc, "ideal T J", files, ("0", text.as_str()))?;
+        check_value(&rt, rt.alloc(), line)?;
     }
     Ok(())
 }

@@ -1,8 +1,8 @@
 //! Journals that are accepted, and the first fault of others. Rows stand apart by slashes here, without the header.
 //! This project's own.
-use crate::call::{call, check, folder_of};
+use crate::call::{check, check_runs};
+use crate::case::parted;
 use example_plans::MOTOR;
-use rcp_base::MemSink;
 use std::alloc::Global;
 use std::process::Abort;
 use std::test::Fail;
@@ -168,44 +168,44 @@ fn check_fault(rt: &impl Abort, alloc: Global, journal: &[u8], fault: &str) -> R
     check(rt, alloc, "ideal T J", files, ("5", text.as_str()))
 }
 
-// It runs over this one.
-fn check_run(rt: &impl Abort, alloc: Global, journal: &str) -> Result<(), Fail> {
-    let mut folder = folder_of(alloc, MOTOR.as_bytes(), journal.as_bytes())?;
-    let status = call(alloc, "ideal T J", &mut folder, &mut MemSink::new(alloc))?;
-    assert_eq!(rt; status, "0", "{journal}");
-    Ok(())
+fn check_accepted(rt: &impl Abort, alloc: Global, rows: &str) -> Result<(), Fail> {
+    let journal = journal_of(alloc, rows)?;
+    check_runs(rt, alloc, rows, MOTOR, journal.as_str())
+}
+
+fn check_rows(rt: &impl Abort, alloc: Global, line: &str) -> Result<(), Fail> {
+    let (rows, fault) = parted(line);
+    let journal = journal_of(alloc, rows)?;
+    check_fault(rt, alloc, journal.as_bytes(), fault)
+}
+
+fn check_no_header(rt: &impl Abort, alloc: Global, line: &str) -> Result<(), Fail> {
+    let journal = text_of(alloc, line)?;
+    check_fault(rt, alloc, journal.as_bytes(), "J03")
 }
 
 #[test]
 fn journals_within_their_limits_are_accepted(rt: HostRuntime) -> Result<(), Fail> {
-    let alloc = rt.alloc();
     for rows in ACCEPTED.lines() {
-        let journal = journal_of(alloc, rows)?;
-        check_run(&rt, alloc, journal.as_str())?;
+        check_accepted(&rt, rt.alloc(), rows)?;
     }
     Ok(())
 }
 
 #[test]
 fn a_journal_is_refused_at_its_first_fault(rt: HostRuntime) -> Result<(), Fail> {
-    let alloc = rt.alloc();
     for line in FAULTS.lines() {
-        let (rows, fault) = line.split_once(" => ").ok_or("no fault")?;
-        let journal = journal_of(alloc, rows)?;
-        check_fault(&rt, alloc, journal.as_bytes(), fault)?;
+        check_rows(&rt, rt.alloc(), line)?;
     }
     Ok(())
 }
 
 #[test]
 fn journals_without_a_header_are_refused(rt: HostRuntime) -> Result<(), Fail> {
-    let alloc = rt.alloc();
-    check_fault(&rt, alloc, b"", "J03")?;
     for line in NO_HEADER.lines() {
-        let journal = text_of(alloc, line)?;
-        check_fault(&rt, alloc, journal.as_bytes(), "J03")?;
+        check_no_header(&rt, rt.alloc(), line)?;
     }
-    Ok(())
+    check_fault(&rt, rt.alloc(), b"", "J03")
 }
 
 #[test]

@@ -1,10 +1,9 @@
 //! Task files that are accepted, and the first fault of others.
 //! This project's own.
-use crate::call::{call, check, folder_of};
-use crate::case::changed_often;
+use crate::call::{check, check_runs};
+use crate::case::{changed_often, parted, replaced};
 use crate::files::TWO_FRAMES;
 use example_plans::{COUNTER, MOTOR};
-use rcp_base::MemSink;
 use std::alloc::Global;
 use std::process::Abort;
 use std::test::Fail;
@@ -125,23 +124,29 @@ tasks = ["move"] => tasks = ["move", "pos"] => E08 slot[1].tasks[1]
 tasks = ["sense", "integrate"] => tasks = ["sense", "integrate", "sense2"] && task = [ => task = [~  { name = "sense2", body = "err := cmd;" }, => E09 slot[0].tasks[2]
 "#;
 
+fn check_accepted(rt: &impl Abort, alloc: Global, file: &str, line: &str) -> Result<(), Fail> {
+    let file = changed_often(alloc, file, line)?;
+    check_runs(rt, alloc, line, file.as_str(), TWO_FRAMES)
+}
+
 // Each line has changes with which the file is accepted.
 fn are_accepted(rt: &impl Abort, alloc: Global, file: &str, lines: &str) -> Result<(), Fail> {
     for line in lines.lines() {
-        let file = changed_often(alloc, file, line)?;
-        let mut folder = folder_of(alloc, file.as_bytes(), TWO_FRAMES.as_bytes())?;
-        let status = call(alloc, "ideal T J", &mut folder, &mut MemSink::new(alloc))?;
-        assert_eq!(rt; status, "0", "{line}");
+        check_accepted(rt, alloc, file, line)?;
     }
     Ok(())
+}
+
+fn check_changed(rt: &impl Abort, alloc: Global, file: &str, line: &str) -> Result<(), Fail> {
+    let (changes, fault) = parted(line);
+    let file = changed_often(alloc, file, changes)?;
+    check_fault(rt, alloc, file.as_bytes(), fault)
 }
 
 // Each line has changes and the fault that the file then has.
 fn have_faults(rt: &impl Abort, alloc: Global, file: &str, lines: &str) -> Result<(), Fail> {
     for line in lines.lines() {
-        let (changes, fault) = line.rsplit_once(" => ").ok_or("no fault")?;
-        let file = changed_often(alloc, file, changes)?;
-        check_fault(rt, alloc, file.as_bytes(), fault)?;
+        check_changed(rt, alloc, file, line)?;
     }
     Ok(())
 }
@@ -180,12 +185,20 @@ fn the_longest_file_is_read(rt: HostRuntime) -> Result<(), Fail> {
 }
 
 #[test]
-fn longer_files_and_texts_are_refused(rt: HostRuntime) -> Result<(), Fail> {
-    let alloc = rt.alloc();
-    let longer = "#".repeat(alloc, 1_048_577)?;
-    check_fault(&rt, alloc, longer.as_bytes(), "E01")?;
+fn a_longer_file_is_refused(rt: HostRuntime) -> Result<(), Fail> {
+    let longer = "#".repeat(rt.alloc(), 1_048_577)?;
+    check_fault(&rt, rt.alloc(), longer.as_bytes(), "E01")
+}
+
+// The counter with a body of 4,097 bytes.
+fn long_bodied(alloc: Global) -> Result<String, Fail> {
     let blanks = " ".repeat(alloc, 4_085)?;
-    let change = format!(in alloc; "n := n + 1; => n := n + 12;{}", blanks.as_str())?;
-    let long_body = changed_often(alloc, COUNTER, change.as_str())?;
-    check_fault(&rt, alloc, long_body.as_bytes(), "E03 task[0].body")
+    let body = format!(in alloc; "n := n + 12;{}", blanks.as_str())?;
+    replaced(alloc, COUNTER, "n := n + 1;", body.as_str())
+}
+
+#[test]
+fn a_longer_text_is_refused(rt: HostRuntime) -> Result<(), Fail> {
+    let file = long_bodied(rt.alloc())?;
+    check_fault(&rt, rt.alloc(), file.as_bytes(), "E03 task[0].body")
 }
