@@ -1,5 +1,5 @@
 -- What the places of ballots say, and the vote of a replica that may be down. This project's own.
-use Rattle.std.specs.Prelude.{false, true, ◌≡◌, ◌<◌, ℕ, Bool, ℤ, pos, ◌≤ℤ◌, IfSome, length, List, slice_index_or, Option, Some, None, if◌then◌else◌}
+use Rattle.std.specs.Prelude.{false, true, ◌≡◌, ◌<◌, ℕ, Bool, List, slice_index_or, Option, Some, None, if◌then◌else◌}
 use Rattle.rcp_base.specs.Message.{Content}
 use Rattle.rcp_base.specs.Tables.{table}
 use Rattle.rcp_model.specs.declared.plan.PlanParts.{PlanParts}
@@ -27,7 +27,7 @@ AreBallots replicas places voted =
     (replica : ℕ) (d : Ballot) → replica < replicas
     → IsBallotOrNone replicas (slice_index_or places replica d) (voted replica)
 
--- what a receiver hears of each sender: of its own message, of the letters of this frame and of those of the one before
+-- what a receiver hears of each sender, of letters of this frame and of the one before
 abbrev pub heard_by : PlanParts → ℕ → FrameRows → ℕ → Content
     → (ℕ → Option Letter) → (ℕ → Option Letter) → ℕ → Option Content
 heard_by plan frame rows receiver own fresh late sender =
@@ -40,12 +40,3 @@ ballot_now plan votes rows replica computed heard =
     if is_up plan rows replica
     then Some (model.ballot_of plan votes computed.slot computed.cells heard)
     else None
-
--- a number that a message may name as a slot
-abbrev pub IsSlotNumber : ℤ → Type 0
-IsSlotNumber x = (pos 0 ≤ℤ x) × (x ≤ℤ pos 4_294_967_295)
-
--- each place names such a number or none
-abbrev pub AreSlotNumbers : List (Option ℤ) → Type 0
-AreSlotNumbers places =
-    (k : ℕ) → k < length places → IfSome (slice_index_or places k None) IsSlotNumber

@@ -4,3 +4,4 @@ pub mod Rooms
 pub mod Ballots
 pub mod States
 pub mod Laws
+pub mod inner

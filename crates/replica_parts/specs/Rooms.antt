@@ -13,19 +13,19 @@ pub record AreEach {X : Type 0} (n : ℕ) (P : X → Type 0) (xs : List X) : Typ
   pub size : length xs ≡ n
   pub each : All P xs
 
--- it has a cell for each of the plan's
+-- it holds a value for each cell
 abbrev pub HasCells : Setting → ProcessorState → Type 0
 HasCells setting held = length held.cells ≡ setting.cells
 
--- it has a place for the value of each cell
+-- a message has a place for the value of each cell
 abbrev pub HasRoom : Setting → Content → Type 0
 HasRoom setting message = length message.values ≡ setting.cells
 
--- its message has such places
+-- a place for a letter of the plan
 abbrev pub IsPost : Setting → Post → Type 0
 IsPost setting place = HasRoom setting place.message
 
--- its message has such places
+-- a place for a message of the plan that is heard
 abbrev pub IsHeard : Setting → Heard → Type 0
 IsHeard setting place = HasRoom setting place.message
 

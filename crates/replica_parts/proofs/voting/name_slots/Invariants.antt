@@ -1,6 +1,6 @@
 use Rattle.rcp_base.specs.Filling.{Filled}
 use Rattle.rcp_base.specs.Message.{Content}
-use Rattle.replica_parts.specs.Ballots.{IsSlotNumber}
+use Rattle.replica_parts.specs.inner.Slots.{IsSlotNumber}
 use Rattle.replica_parts.specs.Places.{message_at}
 use Rattle.std.proofs.Common.{None, get_or, option_map, pos, ℕ, ◌<◌}
 use Rattle.std.specs.Prelude.{IfSome}

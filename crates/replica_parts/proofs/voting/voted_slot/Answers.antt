@@ -1,6 +1,6 @@
 use Rattle.rcp_base.proofs.MajorityLaws.{majority_within}
 use Rattle.replica_parts.proofs.BallotLemmas.{voted_none, voted_some}
-use Rattle.replica_parts.specs.Ballots.{IsSlotNumber}
+use Rattle.replica_parts.specs.inner.Slots.{IsSlotNumber}
 use Rattle.std.proofs.Common.{SFits, ap, nat_abs, rules, sym, w64, ◌∙◌}
 use Rattle.std.proofs.lemmas.Int.{ints, to_z-of_z}
 use Rattle.std.specs.Ordering.{int_eq}
