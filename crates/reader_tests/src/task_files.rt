@@ -1,9 +1,11 @@
 //! Whole files: the parts of a good one, and the fault of each that is changed, worked by hand from the rules.
 //! This project's own.
 use crate::cases::{check_answer, check_lines, halves, replaced};
-use rcp_model::Plan;
+use rcp_base::Name;
+use rcp_model::{ActuatorRow, Plan, PlanParts, SlotRow, Task, Variable};
 use std::alloc::{AllocError, Global};
 use std::process::Abort;
+use std::str;
 use std::test::Fail;
 use task_file::{FileFault, Key, Path, Section, path_text, read_plan};
 
@@ -100,50 +102,107 @@ fn good_plan(alloc: Global) -> Result<Plan, Fail> {
     Ok(read_plan(alloc, FILE.as_bytes()).map_err(|_| "refused")?)
 }
 
+fn put_name(text: &mut String, name: &Name) -> Result<(), Fail> {
+    text.push_str(str::from_utf8(name.bytes())?)?;
+    text.push_str("; ")?;
+    Ok(())
+}
+
+fn put_variable(alloc: Global, text: &mut String, row: &Variable) -> Result<(), Fail> {
+    let value = format!(in alloc; "{} ", row.initial)?;
+    text.push_str(value.as_str())?;
+    put_name(text, &row.name)
+}
+
+// The values of sensors or cells before the first frame, each with its name.
+fn variables(alloc: Global, rows: &[Variable]) -> Result<String, Fail> {
+    let mut text = String::new(alloc);
+    for row in rows {
+        put_variable(alloc, &mut text, row)?;
+    }
+    Ok(text)
+}
+
+fn task_names(alloc: Global, rows: &[Task]) -> Result<String, Fail> {
+    let mut text = String::new(alloc);
+    for row in rows {
+        put_name(&mut text, &row.name)?;
+    }
+    Ok(text)
+}
+
+fn actuator_names(alloc: Global, rows: &[ActuatorRow]) -> Result<String, Fail> {
+    let mut text = String::new(alloc);
+    for row in rows {
+        put_name(&mut text, &row.name)?;
+    }
+    Ok(text)
+}
+
+fn put_slot(alloc: Global, text: &mut String, slot: &SlotRow) -> Result<(), AllocError> {
+    let (tasks, votes) = (slot.tasks.as_slice(), slot.votes.as_slice());
+    let item = format!(in alloc; "{tasks:?} {votes:?}; ")?;
+    text.push_str(item.as_str())
+}
+
+// The numbers of each slot's tasks and of the cells that it votes.
+fn slots(alloc: Global, rows: &[SlotRow]) -> Result<String, AllocError> {
+    let mut text = String::new(alloc);
+    for row in rows {
+        put_slot(alloc, &mut text, row)?;
+    }
+    Ok(text)
+}
+
+fn numbers(alloc: Global, parts: &PlanParts) -> Result<String, AllocError> {
+    format!(in alloc; "{} {}", parts.replicas, parts.timing.drift_ppm)
+}
+
 #[test]
 fn a_good_file_gives_its_numbers(rt: HostRuntime) -> Result<(), Fail> {
     let plan = good_plan(rt.alloc())?;
-    assert_eq!(rt; plan.parts().replicas, 3);
-    assert_eq!(rt; plan.parts().timing.drift_ppm, 100);
+    let text = numbers(rt.alloc(), plan.parts())?;
+    check_answer(&rt, "numbers", text.as_str(), "3 100");
+    Ok(())
+}
+
+#[test]
+fn a_good_file_gives_its_sensors(rt: HostRuntime) -> Result<(), Fail> {
+    let plan = good_plan(rt.alloc())?;
+    let text = variables(rt.alloc(), plan.parts().sensors.as_slice())?;
+    check_answer(&rt, "sensors", text.as_str(), "-1 s; ");
     Ok(())
 }
 
 #[test]
 fn a_good_file_gives_its_cells(rt: HostRuntime) -> Result<(), Fail> {
     let plan = good_plan(rt.alloc())?;
-    let cell = plan.parts().cells.as_slice().last().ok_or("no cell")?;
-    assert_eq!(rt; cell.name.bytes(), b"m".as_slice());
-    assert_eq!(rt; cell.initial, 7);
+    let text = variables(rt.alloc(), plan.parts().cells.as_slice())?;
+    check_answer(&rt, "cells", text.as_str(), "0 n; 7 m; ");
     Ok(())
 }
 
 #[test]
 fn a_good_file_gives_its_tasks(rt: HostRuntime) -> Result<(), Fail> {
     let plan = good_plan(rt.alloc())?;
-    let task = plan.parts().tasks.as_slice().last().ok_or("no task")?;
-    assert_eq!(rt; task.name.bytes(), b"last".as_slice());
+    let text = task_names(rt.alloc(), plan.parts().tasks.as_slice())?;
+    check_answer(&rt, "tasks", text.as_str(), "first; last; ");
     Ok(())
 }
 
 #[test]
 fn a_good_file_gives_its_slots(rt: HostRuntime) -> Result<(), Fail> {
     let plan = good_plan(rt.alloc())?;
-    let slot = plan.parts().slots.as_slice().first().ok_or("no slot")?;
-    assert_eq!(rt; slot.tasks.as_slice(), [0, 1].as_slice());
-    assert_eq!(rt; slot.votes.as_slice(), [0, 1].as_slice());
+    let text = slots(rt.alloc(), plan.parts().slots.as_slice())?;
+    check_answer(&rt, "slots", text.as_str(), "[0, 1] [0, 1]; ");
     Ok(())
 }
 
 #[test]
 fn a_good_file_gives_its_actuators(rt: HostRuntime) -> Result<(), Fail> {
     let plan = good_plan(rt.alloc())?;
-    let actuator = plan
-        .parts()
-        .actuators
-        .as_slice()
-        .first()
-        .ok_or("no actuator")?;
-    assert_eq!(rt; actuator.name.bytes(), b"out".as_slice());
+    let text = actuator_names(rt.alloc(), plan.parts().actuators.as_slice())?;
+    check_answer(&rt, "actuators", text.as_str(), "out; ");
     Ok(())
 }
 
