@@ -1,6 +1,6 @@
 //! The one place where tests call the program.
 //! This project's own.
-use rcp_base::{MemFolder, MemSink};
+use rcp_base::{MemFolder, MemSink, Memory};
 use rcp_top::{Status, rcp};
 use std::alloc::Global;
 use std::process::Abort;
@@ -39,12 +39,16 @@ pub fn call(
     Ok(number(rcp(alloc, words.as_slice(), folder, out)))
 }
 
-/// Two files, under T and J, and one under B that is no TOML.
-pub fn folder_of(alloc: Global, file: &[u8], journal: &[u8]) -> Result<MemFolder, Fail> {
-    let mut folder = MemFolder::new(alloc);
+fn put_files(folder: &mut MemFolder, file: &[u8], journal: &[u8]) -> Result<(), Memory> {
     folder.put("T", file)?;
     folder.put("J", journal)?;
-    folder.put("B", b"no = toml = at all")?;
+    folder.put("B", b"no = toml = at all")
+}
+
+/// Two files, under T and J, and one under B that is no TOML.
+pub fn folder_of(alloc: Global, file: &[u8], journal: &[u8]) -> Result<MemFolder, Memory> {
+    let mut folder = MemFolder::new(alloc);
+    put_files(&mut folder, file, journal)?;
     Ok(folder)
 }
 
@@ -85,6 +89,11 @@ pub fn check(
     check_call(rt, alloc, line, &mut folder, &mut out, due)
 }
 
+fn status_of_run(alloc: Global, folder: &mut MemFolder) -> Result<&'static str, Fail> {
+    let mut out = MemSink::new(alloc);
+    call(alloc, "ideal T J", folder, &mut out)
+}
+
 /// The plan of the file of this case runs over the journal.
 pub fn check_runs(
     rt: &impl Abort,
@@ -94,8 +103,7 @@ pub fn check_runs(
     journal: &str,
 ) -> Result<(), Fail> {
     let mut folder = folder_of(alloc, file.as_bytes(), journal.as_bytes())?;
-    let mut out = MemSink::new(alloc);
-    let status = call(alloc, "ideal T J", &mut folder, &mut out)?;
+    let status = status_of_run(alloc, &mut folder)?;
     check_status(rt, case, status, "0");
     Ok(())
 }

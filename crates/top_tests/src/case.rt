@@ -1,7 +1,7 @@
 //! Cases as blocks of lines, by small functions, since each is proved alone.
 //! This project's own.
 use crate::call::{check_call, folder_of};
-use crate::files::{TWO_FRAMES, file_named};
+use crate::files::file_named;
 use rcp_base::{MemFolder, MemSink};
 use std::alloc::{AllocError, Global};
 use std::process::Abort;
@@ -57,7 +57,7 @@ impl Case {
         if let Some(change) = line.strip_prefix("| ") {
             self.change(alloc, change)
         } else if let Some(row) = line.strip_prefix(": ") {
-            put_line(&mut self.rows, row)
+            Ok(put_line(&mut self.rows, row)?)
         } else if let Some(read) = line.strip_prefix("! read ") {
             self.fail_read(read)
         } else if let Some(write) = line.strip_prefix("! write ") {
@@ -65,7 +65,7 @@ impl Case {
         } else if let Some(front) = line.strip_prefix("> ") {
             Ok(self.due.push_str(front)?)
         } else {
-            put_line(&mut self.due, line)
+            Ok(put_line(&mut self.due, line)?)
         }
     }
 
@@ -93,19 +93,15 @@ impl Case {
 }
 
 /// Puts a line, with its line feed, after a text.
-pub fn put_line(text: &mut String, line: &str) -> Result<(), Fail> {
+pub fn put_line(text: &mut String, line: &str) -> Result<(), AllocError> {
     text.push_str(line)?;
-    text.push_str("\n")?;
-    Ok(())
+    text.push_str("\n")
 }
 
-/// A journal with these rows, each with its line feed, and without any the one of two frames.
+/// A journal with these rows, each with its line feed, and without any one of two frames.
 pub fn journal_of(alloc: Global, rows: &str) -> Result<String, AllocError> {
-    if rows.is_empty() {
-        String::from_str(alloc, TWO_FRAMES)
-    } else {
-        format!(in alloc; "frame,kind,a,b,c,d\n{rows}")
-    }
+    let rows = if rows.is_empty() { "2,end,,,,\n" } else { rows };
+    format!(in alloc; "frame,kind,a,b,c,d\n{rows}")
 }
 
 /// What stands before the last arrow of a line, and what is due.

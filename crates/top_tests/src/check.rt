@@ -107,11 +107,21 @@ fn a_vote_pattern_is_analysed(rt: HostRuntime) -> Result<(), Fail> {
     check_all(&rt, rt.alloc(), CHECKED)
 }
 
+fn check_form(
+    rt: &impl Abort,
+    alloc: Global,
+    line: &str,
+    file: &str,
+    text: &str,
+) -> Result<(), Fail> {
+    let files = (file.as_bytes(), TWO_FRAMES.as_bytes());
+    check(rt, alloc, line, files, ("4", text))
+}
+
 // No form runs over this file, whose pattern is refused with this text.
 fn check_refused(rt: &impl Abort, alloc: Global, file: &str, text: &str) -> Result<(), Fail> {
     for line in FORMS.lines() {
-        let files = (file.as_bytes(), TWO_FRAMES.as_bytes());
-        check(rt, alloc, line, files, ("4", text))?;
+        check_form(rt, alloc, line, file, text)?;
     }
     Ok(())
 }

@@ -1,6 +1,6 @@
 //! The frames of a journal, as who runs them sees them: what the rows of each frame say, and who is not healthy in it.
 //! This project's own.
-ghost use Rattle.std.specs.Prelude.{◌≡◌, ◌<◌, length, IfOk};
+ghost use Rattle.std.specs.Prelude.{◌≡◌, ◌<◌, length, IfOk, IsTrue};
 ghost use Rattle.rcp_model.specs.History.{History};
 ghost use Rattle.rcp_model.specs.FrameLimits.{IsFrameOf};
 ghost use Rattle.top_tests.specs.Frames.{CanFillNext, IsAtStart, IsOfMotor};
@@ -57,16 +57,29 @@ const SECOND_FRAMES: &str =
 6
 ";
 
+fn has_sizes(plan: &Plan) -> bool
+    ensures replicas { IsTrue result → plan.now.replicas ≡ 3 }
+    ensures sensors { IsTrue result → length plan.now.sensors ≡ 1 }
+    ensures cells { IsTrue result → length plan.now.cells ≡ 3 }
+    ensures actuators { IsTrue result → length plan.now.actuators ≡ 1 }
+{
+    let parts = plan.parts();
+    parts.replicas == 3
+        && parts.sensors.len() == 1
+        && parts.cells.len() == 3
+        && parts.actuators.len() == 1
+}
+
 // The plan of the motor, whose sizes are tested.
-fn motor(rt: &impl Abort, alloc: Global) -> Result<Plan, Fail>
+fn motor(alloc: Global) -> Result<Plan, Fail>
     ensures { IfOk result (IsOfMotor) }
 {
     let plan = example_plans::motor(alloc)?;
-    assert_eq!(rt; plan.parts().replicas, 3);
-    assert_eq!(rt; plan.parts().sensors.len(), 1);
-    assert_eq!(rt; plan.parts().cells.len(), 3);
-    assert_eq!(rt; plan.parts().actuators.len(), 1);
-    Ok(plan)
+    if has_sizes(&plan) {
+        Ok(plan)
+    } else {
+        Err("other sizes".into())
+    }
 }
 
 // The rows before the first frame of a journal.
@@ -102,6 +115,11 @@ fn begin_again(
     begin(alloc, plan, journal)
 }
 
+fn put_what(alloc: Global, text: &mut String, of: &str, what: &str) -> Result<(), AllocError> {
+    let item = format!(in alloc; "; {of} {what}")?;
+    text.push_str(item.as_str())
+}
+
 // Puts what is so of a replica or a message.
 fn put_flag(
     alloc: Global,
@@ -111,10 +129,21 @@ fn put_flag(
     is: bool,
 ) -> Result<(), AllocError> {
     if is {
-        let item = format!(in alloc; "; {of} {what}")?;
-        text.push_str(item.as_str())?;
+        put_what(alloc, text, of, what)
+    } else {
+        Ok(())
     }
-    Ok(())
+}
+
+fn put_number(
+    alloc: Global,
+    text: &mut String,
+    of: &str,
+    what: &str,
+    value: i64,
+) -> Result<(), AllocError> {
+    let item = format!(in alloc; "; {of} {what} {value}")?;
+    text.push_str(item.as_str())
 }
 
 // Puts a value of a replica or a message, if there is one.
@@ -125,11 +154,10 @@ fn put_value(
     what: &str,
     value: Option<i64>,
 ) -> Result<(), AllocError> {
-    if let Some(value) = value {
-        let item = format!(in alloc; "; {of} {what} {value}")?;
-        text.push_str(item.as_str())?;
+    match value {
+        Some(value) => put_number(alloc, text, of, what, value),
+        None => Ok(()),
     }
-    Ok(())
 }
 
 fn cell_name(alloc: Global, cell: u32) -> Result<String, AllocError> {
@@ -363,7 +391,7 @@ fn check_text(
 
 // A journal with these rows has these frames.
 fn check_journal(rt: &impl Abort, alloc: Global, rows: &str, frames: &str) -> Result<(), Fail> {
-    let plan = motor(rt, alloc)?;
+    let plan = motor(alloc)?;
     let text = journal_of(alloc, rows)?;
     check_text(rt, alloc, &plan, text.as_str(), frames)
 }

@@ -3,7 +3,7 @@
 use crate::call::{check, check_runs};
 use crate::case::parted;
 use example_plans::MOTOR;
-use std::alloc::Global;
+use std::alloc::{AllocError, Global};
 use std::process::Abort;
 use std::test::Fail;
 
@@ -149,16 +149,15 @@ kind,frame,a,b,c,d/1,end,,,,
 ";
 
 // A text with a line feed for each slash and at its end.
-fn text_of(alloc: Global, line: &str) -> Result<String, Fail> {
-    let mut text = line.replace(alloc, "/", "\n")?;
-    text.push_str("\n")?;
-    Ok(text)
+fn text_of(alloc: Global, line: &str) -> Result<String, AllocError> {
+    let text = line.replace(alloc, "/", "\n")?;
+    format!(in alloc; "{}\n", text.as_str())
 }
 
 // A journal with these rows.
-fn journal_of(alloc: Global, rows: &str) -> Result<String, Fail> {
-    let rows = text_of(alloc, rows)?;
-    Ok(format!(in alloc; "frame,kind,a,b,c,d\n{}", rows.as_str())?)
+fn journal_of(alloc: Global, rows: &str) -> Result<String, AllocError> {
+    let rows = rows.replace(alloc, "/", "\n")?;
+    format!(in alloc; "frame,kind,a,b,c,d\n{}\n", rows.as_str())
 }
 
 // The motor does not run over this journal, which has this fault.

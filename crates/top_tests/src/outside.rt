@@ -4,7 +4,7 @@ use crate::call::{check_call, folder_of};
 use crate::case::{check_all, put_line};
 use crate::files::TWO_FRAMES;
 use example_plans::COUNTER;
-use rcp_base::MemSink;
+use rcp_base::{MemSink, Memory};
 use std::alloc::Global;
 use std::process::Abort;
 use std::test::Fail;
@@ -54,6 +54,12 @@ recovery 1
 walk -
 ";
 
+fn sink_failing_at(alloc: Global, write: u32) -> Result<MemSink, Memory> {
+    let mut out = MemSink::new(alloc);
+    out.fail_at(write, 0)?;
+    Ok(out)
+}
+
 // Where the write with this number fails before its first byte, this text was written.
 fn check_front(
     rt: &impl Abort,
@@ -63,21 +69,30 @@ fn check_front(
     due: (&str, &str),
 ) -> Result<(), Fail> {
     let mut folder = folder_of(alloc, COUNTER.as_bytes(), TWO_FRAMES.as_bytes())?;
-    let mut out = MemSink::new(alloc);
-    out.fail_at(write, 0)?;
+    let mut out = sink_failing_at(alloc, write)?;
     check_call(rt, alloc, line, &mut folder, &mut out, due)
+}
+
+fn check_fronts(
+    rt: &impl Abort,
+    alloc: Global,
+    line: &str,
+    text: &str,
+    written: &mut String,
+) -> Result<(), Fail> {
+    let mut write = 1u32;
+    for next in text.lines() {
+        check_front(rt, alloc, line, write, ("7", written.as_str()))?;
+        put_line(written, next)?;
+        write = write.saturating_add(1);
+    }
+    check_front(rt, alloc, line, write, ("0", written.as_str()))
 }
 
 // Before each write the lines so far were written, and after the last all of them.
 fn lines_are_writes(rt: &impl Abort, alloc: Global, line: &str, text: &str) -> Result<(), Fail> {
     let mut written = String::new(alloc);
-    let mut write = 1u32;
-    for next in text.lines() {
-        check_front(rt, alloc, line, write, ("7", written.as_str()))?;
-        put_line(&mut written, next)?;
-        write = write.saturating_add(1);
-    }
-    check_front(rt, alloc, line, write, ("0", written.as_str()))
+    check_fronts(rt, alloc, line, text, &mut written)
 }
 
 #[test]

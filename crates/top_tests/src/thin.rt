@@ -127,17 +127,20 @@ fn put_empty_slots(alloc: Global, text: &mut String) -> Result<(), AllocError> {
     Ok(())
 }
 
-fn put_walk(alloc: Global, text: &mut String) -> Result<(), AllocError> {
+fn put_first_nodes(alloc: Global, text: &mut String) -> Result<(), AllocError> {
     for slot in 0..31 {
         let node = format!(in alloc; " {slot}:c0")?;
         text.push_str(node.as_str())?;
     }
-    text.push_str(" 31:c1")?;
+    text.push_str(" 31:c1")
+}
+
+fn put_other_nodes(alloc: Global, text: &mut String) -> Result<(), AllocError> {
     for cell in 2..64 {
         let node = format!(in alloc; " {}:c{cell}", (30 + cell) % 32)?;
         text.push_str(node.as_str())?;
     }
-    Ok(())
+    text.push_str("\n")
 }
 
 // One vote of the first cell is needed. A wrong value of it goes from the first slot to the last but one, then on to the next
@@ -146,8 +149,8 @@ fn shifting_thinned(alloc: Global) -> Result<String, AllocError> {
     let mut text = String::new(alloc);
     put_empty_slots(alloc, &mut text)?;
     text.push_str("slot 31 votes c0\nvotes 1\nspared 2047\nrecovery 95\nwalk")?;
-    put_walk(alloc, &mut text)?;
-    text.push_str("\n")?;
+    put_first_nodes(alloc, &mut text)?;
+    put_other_nodes(alloc, &mut text)?;
     Ok(text)
 }
 
