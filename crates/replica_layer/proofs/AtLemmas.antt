@@ -1,15 +1,13 @@
 -- What stands at the places of a layer that is at a state.
-use Rattle.std.proofs.Common.{◌≡◌, ℕ, ◌<◌, List, [], ◌∙◌, length, get_or, Option, None, ap, subst, sym, arith, ℤ}
+use Rattle.std.proofs.Common.{◌≡◌, ℕ, ◌<◌, List, ◌∙◌, length, get_or, ap, subst, sym, arith}
 use Rattle.std.proofs.lemmas.List.{get_or_read}
 use Rattle.std.proofs.lemmas.List.Elements.{All-get_or}
-use Rattle.rcp_base.specs.Tables.{table}
 use Rattle.rcp_base.proofs.TableLaws.{get_or-table}
 use Rattle.rcp_model.specs.declared.plan.PlanParts.{PlanParts}
 use Rattle.rcp_model.specs.System.{SystemState}
 use Rattle.rcp_model.specs.Uniprocessor.{ProcessorState}
 use Rattle.replica_parts.specs.declared.ballot.Ballot.{Ballot}
 use Rattle.replica_parts.specs.Ballots.{IsBallotOrNone}
-use Rattle.replica_parts.specs.Places.{command_rows}
 use Rattle.replica_parts.specs.Rooms.{HasBallotRoom}
 use Rattle.replica_parts.specs.States.{no_state}
 use Rattle.replica_layer.specs.declared.replicated.Replicated.{Replicated}
@@ -30,9 +28,3 @@ module _ (layer : Replicated) (plan : PlanParts) (state : SystemState) (h : IsAt
   ballot_room one e =
       let inside : replica < length layer.ballots.items = omega (arith, lt, h.room.ballots.size, h.setting.replicas) in
       subst (HasBallotRoom layer.setting) (sym e) (All-get_or (HasBallotRoom layer.setting) layer.ballots.items replica one inside h.room.ballots.each)
-
-  pub command_is : (actuator : ℕ) → actuator < length plan.actuators → get_or (get_or (command_rows layer.commands.items) replica []) actuator None ≡ state.commands replica actuator
-  command_is actuator below =
-      ap (λ (xs : List (List (Option ℤ))). get_or (get_or xs replica []) actuator None) h.commands
-      ∙ ap (λ (xs : List (Option ℤ)). get_or xs actuator None) (get_or-table plan.replicas (λ p. table (length plan.actuators) (state.commands p)) replica [] lt)
-      ∙ get_or-table (length plan.actuators) (state.commands replica) actuator None below

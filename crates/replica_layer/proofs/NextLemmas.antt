@@ -1,53 +1,24 @@
 -- What the steps of a frame leave is the next state.
-use Rattle.std.proofs.Common.{cond, ◌≡◌, ℕ, ◌<◌, Bool, List, [], map, length, get_or, Option, None, option_map, refl, sym, ap, ap₂, subst, ◌∙◌, inl, inr, arith, ℤ, pos, nat_eq, Vec}
+use Rattle.std.proofs.Common.{◌≡◌, ℕ, ◌<◌, Bool, List, [], map, length, get_or, Option, None, sym, ap, ap₂, subst, ◌∙◌, inl, inr, arith, Vec}
 use Rattle.std.proofs.lemmas.Bool.{cases_Bool, cond-true, cond-false}
 use Rattle.std.proofs.lemmas.List.{get_or-map, length-map}
 use Rattle.std.specs.Global.{Global}
-use Rattle.std.specs.Option.{option_and_then}
-use Rattle.rcp_base.specs.Majority.{voted_value}
-use Rattle.rcp_base.specs.Median.{chosen_value}
-use Rattle.rcp_base.specs.Message.{Content, value_in}
+use Rattle.rcp_base.specs.Message.{Content}
 use Rattle.rcp_base.specs.Tables.{table}
 use Rattle.rcp_base.proofs.FillLaws.{table_agree, map-table}
 use Rattle.rcp_base.proofs.TableLaws.{get_or-table, length-table}
 use Rattle.rcp_model.specs.declared.plan.PlanParts.{PlanParts}
-use Rattle.rcp_model.specs.Ballot.{ballot_of, is_median, taken_slot, values_heard, voted_cell, voted_cells}
+use Rattle.rcp_model.specs.Ballot.{ballot_of}
 use Rattle.rcp_model.specs.FrameRows.{FrameRows}
 use Rattle.rcp_model.specs.Messages.{Letter, heard_message, is_up, is_voted, letter_to, own_message}
 use Rattle.rcp_model.specs.System.{SystemState, ballot_in, computed_cells, end_of_frame, fresh_letter, heard_in, next_state, state_after_rows, still_on_its_way}
 use Rattle.rcp_model.specs.Uniprocessor.{ProcessorState}
+use Rattle.replica_parts.proofs.BallotLaws.{ballot_agrees}
 use Rattle.replica_parts.specs.declared.ballot.Ballot.{Ballot}
 use Rattle.replica_parts.specs.declared.post.Post.{Post}
 use Rattle.replica_parts.specs.Ballots.{IsBallot, IsBallotOrNone, ballot_now, heard_by}
 use Rattle.replica_parts.specs.Places.{letter_rows, post_at}
 use Rattle.replica_parts.specs.States.{message_of, no_content, no_state, state_after_compute, state_after_vote}
-
--- what is heard of the senders that there are decides the vote
-module _ (plan : PlanParts) (heard other : ℕ → Option Content) (same : (sender : ℕ) → sender < plan.replicas → heard sender ≡ other sender) where
-  taken_same : (slot : ℕ) → taken_slot plan slot heard ≡ taken_slot plan slot other
-  unfolding taken_slot
-  taken_same slot = ap (λ (xs : List (Option ℕ)). voted_value nat_eq xs slot)
-      (table_agree plan.replicas (λ sender. option_map (λ (message : Content). message.slot) (heard sender)) (λ sender. option_map (λ (message : Content). message.slot) (other sender)) None (λ k lt. ap (option_map (λ (message : Content). message.slot)) (same k lt)))
-
-  values_same : (cell : ℕ) → values_heard plan heard cell ≡ values_heard plan other cell
-  values_same cell = table_agree plan.replicas (λ sender. option_and_then (λ message. value_in message cell) (heard sender)) (λ sender. option_and_then (λ message. value_in message cell) (other sender)) None (λ k lt. ap (option_and_then (λ message. value_in message cell)) (same k lt))
-
-  cells_same : (votes : ℕ → ℕ → Bool) (taken : ℕ) (computed : List ℤ) → voted_cells plan votes taken heard computed ≡ voted_cells plan votes taken other computed
-  unfolding voted_cells voted_cell
-  cells_same votes taken computed = table_agree (length plan.cells) _ _ (pos 0)
-      (λ c lt. ap (λ (xs : List (Option ℤ)). cond (votes taken c) (chosen_value (is_median plan c) xs (get_or computed c (pos 0))) (get_or computed c (pos 0))) (values_same c))
-
-  -- a ballot over either is one over the other
-  pub ballot_agrees : (votes : ℕ → ℕ → Bool) (slot : ℕ) (computed : List ℤ) (place : Ballot)
-      → IsBallot plan.replicas place (ballot_of plan votes slot computed heard) → IsBallot plan.replicas place (ballot_of plan votes slot computed other)
-  unfolding ballot_of
-  ballot_agrees votes slot computed place h =
-      let taken : taken_slot plan slot heard ≡ taken_slot plan slot other = taken_same slot in
-      record {
-        heard = h.heard ∙ table_agree plan.replicas heard other None same;
-        taken = h.taken ∙ taken;
-        cells = h.cells ∙ cells_same votes (taken_slot plan slot heard) computed ∙ ap (λ s. voted_cells plan votes s other computed) taken;
-      }
 
 module _ (plan : PlanParts) (rows : FrameRows) (state : SystemState) (held : List ProcessorState) (held_is : held ≡ table plan.replicas state.replicas) where
   pub held_at : (p : ℕ) → p < plan.replicas → get_or held p no_state ≡ state.replicas p
@@ -104,7 +75,7 @@ module _ (plan : PlanParts) (rows : FrameRows) (state : SystemState) (votes : �
           let some = subst (IsBallotOrNone plan.replicas place) (cond-true _ _ _ u) h in
           let by_plan = subst (λ (v : ℕ → ℕ → Bool). IsBallot plan.replicas place (ballot_of plan v (get_or computed q no_state).slot (get_or computed q no_state).cells heard)) votes_are some.1 in
           let same = subst (λ (x : ProcessorState). IsBallot plan.replicas place (ballot_of plan (is_voted plan) x.slot x.cells heard)) (computed_at q lt) by_plan in
-          subst (IsBallotOrNone plan.replicas place) (sym (cond-true _ _ _ u)) (some.0, ballot_agrees plan heard (heard_in plan state rows q) (λ p l. heard_at q p lt l) (is_voted plan) (state.replicas q).slot (computed_cells plan rows (state.replicas q)) place same)
+          subst (IsBallotOrNone plan.replicas place) (sym (cond-true _ _ _ u)) (some.0, ballot_agrees plan (is_voted plan) (state.replicas q).slot (computed_cells plan rows (state.replicas q)) place heard (heard_in plan state rows q) (λ p l. heard_at q p lt l) same)
       | inr d ↦ subst (IsBallotOrNone plan.replicas place) (sym (cond-false _ _ _ d)) (subst (IsBallotOrNone plan.replicas place) (cond-false _ _ _ d) h)
     ]
 

@@ -7,7 +7,7 @@ use Rattle.rcp_model.specs.System.{SystemState}
 use Rattle.vote_pattern.specs.Votes.{IsPatternOf}
 use Rattle.replica_parts.specs.Ballots.{AreBallots}
 use Rattle.replica_parts.specs.Places.{command_rows, letter_rows}
-use Rattle.replica_parts.specs.Rooms.{AreCommandRows, AreMessages, ArePostRows, AreStates, AreVotes, HaveBallotRoom}
+use Rattle.replica_parts.specs.Rooms.{AreCommandRows, AreMessages, ArePostRows, AreStates, AreVotePlaces, HaveBallotRoom}
 use Rattle.replica_parts.specs.Setting.{IsSettingOf}
 use Rattle.replica_layer.specs.declared.replicated.Replicated.{Replicated}
 
@@ -20,7 +20,7 @@ pub record HaveRoom (layer : Replicated) : Type 0 where
   pub computed : AreStates layer.setting layer.computed.items
   pub own : AreMessages layer.setting layer.own.items
   pub fresh : ArePostRows layer.setting layer.fresh.items
-  pub places : AreVotes layer.setting layer.places.items
+  pub places : AreVotePlaces layer.setting layer.places.items
 
 -- it keeps what it needs of the plan, and says of each replica what the state says
 pub record IsAt (layer : Replicated) (plan : PlanParts) (state : SystemState) : Type 0 where

@@ -1,9 +1,7 @@
 //! The replicas in one step.
 //! After NASA TM-102716.
-ghost use Rattle.std.specs.Prelude.{◌≡◌, ◌<◌, [], IfOk, None, slice_index_or};
+ghost use Rattle.std.specs.Prelude.{IfOk};
 ghost use Rattle.rcp_model.specs.System.{initial_state};
-ghost use Rattle.replica_parts.specs.Places as places;
-ghost use Rattle.replica_parts.specs.Rooms.{AreCommandRows};
 ghost use Rattle.replica_layer.specs.State.{IsAt};
 
 use crate::frames::run_frame;
@@ -13,8 +11,8 @@ use mailbox::Message;
 use rcp_base::Memory;
 use rcp_model::Plan;
 use replica_parts::{
-    Ballot, Held, Post, Setting, ballots, command_rows, initial_states, messages, post_rows,
-    vote_places,
+    Ballot, Held, Post, Setting, ballots, command_at, command_rows, initial_states, messages,
+    post_rows, vote_places,
 };
 use std::alloc::Global;
 use vote_pattern::Pattern;
@@ -92,7 +90,7 @@ impl Layer for Replicated {
     }
 
     fn command(&self, replica: u32, actuator: u32) -> Option<i64> {
-        command_at(&self.setting, self.commands.as_slice(), replica, actuator)
+        command_at(self.commands.as_slice(), replica, actuator)
     }
 
     fn heard_slot(&self, to: u32, from: u32) -> Option<u32> {
@@ -110,20 +108,4 @@ impl Layer for Replicated {
     fn voted_cell(&self, replica: u32, cell: u32) -> Option<i64> {
         self.ballots[replica as usize].voted_cell(cell)
     }
-}
-
-// The command in the row of a replica at an actuator's place.
-fn command_at(
-    setting: &Setting,
-    rows: &[Vec<Option<i64>>],
-    replica: u32,
-    actuator: u32,
-) -> Option<i64>
-    requires room { AreCommandRows setting.now rows.now }
-    requires replica { replica < setting.now.replicas }
-    requires actuator { actuator < setting.now.actuators }
-    ensures { result ≡ slice_index_or
-        (slice_index_or (places.command_rows rows.now) replica []) actuator None }
-{
-    rows[replica as usize][actuator as usize]
 }
