@@ -1,5 +1,4 @@
 use Rattle.std.proofs.Common.{◌≡◌, sym, ◌∙◌, ap, ap₂, get_or, ℕ, ℤ, List, map, subst}
-use Rattle.rcp_base.specs.Message.{Content}
 use Rattle.rcp_base.specs.Tables.{table}
 use Rattle.rcp_model.specs.Messages.{letter_to}
 use Rattle.rcp_model.specs.System.{fresh_letter, next_state}

@@ -1,4 +1,4 @@
-use Rattle.std.proofs.Common.{◌≡◌, ◌<◌, ◌∙◌, ap, get_or, length, pos, subst, sym, arith, rules, ℤ, w64, FitsSigned}
+use Rattle.std.proofs.Common.{◌<◌, ◌∙◌, ap, get_or, length, pos, subst, sym, arith, rules, w64, FitsSigned}
 use Rattle.std.proofs.lemmas.Int.{to_z-of_z}
 use Rattle.std.proofs.lemmas.List.Elements.{All-get_or}
 use Rattle.rcp_model.specs.Uniprocessor.{ProcessorState}
