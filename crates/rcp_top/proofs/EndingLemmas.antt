@@ -5,13 +5,14 @@ use Rattle.rcp_base.specs.declared.sink.WriteError.{WriteError}
 use Rattle.rcp_base.specs.declared.sink.WriteError.TheVariants as write
 use Rattle.rcp_base.specs.States.{FolderState, SinkState, HasFailed, IsUnread}
 use Rattle.rcp_base.specs.Writing.{Writes}
+use Rattle.rcp_base.proofs.WritingLaws.{no_front}
 use Rattle.rcp_top.specs.declared.status.Status.{Status}
 use Rattle.rcp_top.specs.declared.status.Status.TheVariants as status
 use Rattle.rcp_top.specs.declared.stop.Refusal.TheVariants as refusal
 use Rattle.rcp_top.specs.declared.stop.Stop.{Stop}
 use Rattle.rcp_top.specs.declared.stop.Stop.TheVariants as stop
 use Rattle.rcp_top.specs.Finds.{TellsEnd}
-use Rattle.rcp_top.specs.Lines.{unreadable_line}
+use Rattle.trace_text.specs.Refusals.{unreadable_line}
 use Rattle.rcp_top.specs.Forms.{Form, form_of, work_of}
 use Rattle.rcp_top.proofs.ReadingLaws.{does_also}
 use Rattle.rcp_top.specs.Outcome.{Outcome, Ends, EndsOver, HasUnread, outcome_at, outcome_by, outcome_of, words_read, words_read_by, unreadable, status_after}
@@ -103,6 +104,13 @@ told_also (Some files) P Q R all p q = all files p q
 told_always : (told : Option Files) (P : Files → Type 0) → ((files : Files) → P files) → IfTold told P
 told_always None P all = tt
 told_always (Some files) P all = all files
+
+-- a call that had no memory to begin with
+pub ends_memory : (a : FolderState) (words : List (List ℕ)) (old : SinkState) → EndsOver a a words (λ due. Ends due status.Memory old old)
+ends_memory a words old =
+    told_always a.files (λ files. Ends (outcome_of words files) status.Memory old old
+    ⊎ ((name : List ℕ) × HasFailed a a × Contains (words_read words files) name × Ends (unreadable name) status.Memory old old))
+    (λ files. inl (Ends.out_of_memory refl (no_front old.written (outcome_of words files).text)))
 
 -- a reading that ended at a file that was not read
 pub unread_in : {X : Type 0} (a b : FolderState) (reading : Reading X) → Does a b reading (λ end. (name : List ℕ) × (end ≡ End.unread name))

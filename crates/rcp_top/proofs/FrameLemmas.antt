@@ -6,8 +6,9 @@ use Rattle.rcp_base.specs.Adding.{Adds, IsHalfway}
 use Rattle.rcp_base.specs.States.{SinkState}
 use Rattle.rcp_base.proofs.AddingLaws.{halfway_as, halfway_more}
 use Rattle.rcp_model.specs.declared.plan.PlanParts.{PlanParts}
+use Rattle.trace_text.specs.declared.label.Label.TheVariants as label
+use Rattle.trace_text.specs.Lines.{count_line}
 use Rattle.uniproc_layer.specs.Uni.{Processor, StandsAfter}
-use Rattle.rcp_top.specs.Lines.{end_line}
 use Rattle.rcp_top.specs.Ideal.{frames_text, ideal_text, next_frame_text}
 
 -- the first t of these, the newest first
@@ -24,7 +25,7 @@ past_length frames t le = length-reverse (take t frames) ∙ length-take-le t fr
 
 -- what is to be written after t frames
 abbrev pub rest_of : PlanParts → List (List ℤ) → ℕ → List ℕ
-rest_of plan frames t = frames_text plan (past_frames frames t) (drop t frames) ++ end_line (length frames)
+rest_of plan frames t = frames_text plan (past_frames frames t) (drop t frames) ++ count_line label.End (length frames)
 
 pub rest_at_start : (plan : PlanParts) (frames : List (List ℤ)) → rest_of plan frames 0 ≡ ideal_text plan frames
 unfolding ideal_text
@@ -37,14 +38,14 @@ rest_at plan frames t sensors lt is =
     let past = past_frames frames t in
     let rest = drop (t + 1) frames in
     let left : drop t frames ≡ sensors ∷ rest = drop_more frames t sensors lt ∙ ap (λ x. x ∷ rest) (sym is) in
-    ap (λ xs. frames_text plan past xs ++ end_line (length frames)) left
-    ∙ (ap (λ n. (next_frame_text plan sensors n past ++ frames_text plan (sensors ∷ past) rest) ++ end_line (length frames)) (past_length frames t (omega (arith, lt)))
-    ∙ (append_assoc (next_frame_text plan sensors t past) (frames_text plan (sensors ∷ past) rest) (end_line (length frames))
-    ∙ ap (λ p. next_frame_text plan sensors t past ++ (frames_text plan p rest ++ end_line (length frames))) (sym (past_more frames t sensors lt is))))
+    ap (λ xs. frames_text plan past xs ++ count_line label.End (length frames)) left
+    ∙ (ap (λ n. (next_frame_text plan sensors n past ++ frames_text plan (sensors ∷ past) rest) ++ count_line label.End (length frames)) (past_length frames t (omega (arith, lt)))
+    ∙ (append_assoc (next_frame_text plan sensors t past) (frames_text plan (sensors ∷ past) rest) (count_line label.End (length frames))
+    ∙ ap (λ p. next_frame_text plan sensors t past ++ (frames_text plan p rest ++ count_line label.End (length frames))) (sym (past_more frames t sensors lt is))))
 
-pub rest_at_end : (plan : PlanParts) (frames : List (List ℤ)) (t : ℕ) → length frames ≤ t → rest_of plan frames t ≡ end_line (length frames)
+pub rest_at_end : (plan : PlanParts) (frames : List (List ℤ)) (t : ℕ) → length frames ≤ t → rest_of plan frames t ≡ count_line label.End (length frames)
 unfolding frames_text
-rest_at_end plan frames t le = ap (λ xs. frames_text plan (past_frames frames t) xs ++ end_line (length frames)) (drop_all t frames le)
+rest_at_end plan frames t le = ap (λ xs. frames_text plan (past_frames frames t) xs ++ count_line label.End (length frames)) (drop_all t frames le)
 
 -- a processor after one frame more
 pub stands_after_next : (plan : PlanParts) (frames : List (List ℤ)) (uni : Processor) (t : ℕ) (sensors : List ℤ) → t < length frames → sensors ≡ get_or frames t sensors

@@ -1,7 +1,7 @@
+mod CellLemmas
 mod FrameLemmas
 pub mod HistoryLaws
 mod LineLemmas
-mod LineExamples
 mod ThinLemmas
 mod CheckLemmas
 mod JudgeLemmas

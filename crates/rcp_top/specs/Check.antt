@@ -1,29 +1,21 @@
 -- `check FILE`: the tasks of a plan, its votes, and how soon they recover. This project's own.
-use Rattle.std.specs.Prelude.{◌≡◌, ℕ, List, ◌++◌, codes, flat_map, map}
+use Rattle.std.specs.Prelude.{◌≡◌, ℕ, List, ◌++◌, flat_map}
 use Rattle.rcp_model.specs.declared.node.Node.{Node}
 use Rattle.rcp_model.specs.declared.plan.PlanParts.{PlanParts}
-use Rattle.rcp_model.specs.declared.plan.Variable.{Variable}
-use Rattle.rcp_model.specs.declared.task.Task.{Task}
+use Rattle.rcp_model.specs.Plan.{variable_names}
 use Rattle.rcp_model.specs.PlanGraph.{graph_of_plan}
 use Rattle.rcp_model.specs.Shown.{recovery_length, witness_walk}
-use Rattle.task_lang.specs.Printing.{task_text}
+use Rattle.trace_text.specs.PlanLines.{task_line}
 use Rattle.vote_pattern.specs.Votes.{AreVotesOf}
 use Rattle.rcp_top.specs.declared.check.Check.{Check}
-use Rattle.rcp_top.specs.PatternLines.{pattern_text, recovery_text}
+use Rattle.rcp_top.specs.PatternText.{pattern_text, recovery_text}
 use Rattle.rcp_top.specs.Read.{plan_at, shown}
 use Rattle.rcp_top.specs.Reading.{Reading, ◌>>=◌}
 
--- the names of sensors or cells
-abbrev pub names_of : List Variable → List (List ℕ)
-names_of variables = map (λ variable. variable.name) variables
-
--- `task NAME BODY`
-unfoldable pub task_line : List (List ℕ) → List (List ℕ) → Task → List ℕ
-task_line sensors cells task = codes "task " ++ task.name ++ codes " " ++ task_text sensors cells task ++ codes "\n"
-
 -- a line for each task
 abbrev pub task_lines : PlanParts → List ℕ
-task_lines plan = flat_map (task_line (names_of plan.sensors) (names_of plan.cells)) plan.tasks
+task_lines plan =
+    flat_map (task_line (variable_names plan.sensors) (variable_names plan.cells)) plan.tasks
 
 -- the text of `check`, by the recovery length and the walk
 unfoldable pub check_text : PlanParts → ℕ → List Node → List ℕ

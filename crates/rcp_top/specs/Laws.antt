@@ -12,9 +12,9 @@ use Rattle.rcp_model.specs.declared.node.Node.{Node}
 use Rattle.rcp_model.specs.declared.plan.PlanParts.{PlanParts}
 use Rattle.rcp_model.specs.Recovery.{IsRecovery}
 use Rattle.task_file.specs.TaskFile.{task_file_result}
+use Rattle.trace_text.specs.PlanLines.{pattern_refused_line}
 use Rattle.rcp_top.specs.Forms.{Form, form_of}
 use Rattle.rcp_top.specs.Check.{check_text}
-use Rattle.rcp_top.specs.PatternLines.{pattern_refused_line}
 use Rattle.rcp_top.specs.Outcome.{Outcome, Ends, EndsOver, outcome_of}
 
 -- where no read failed, the call ends as is due over the folder's own files

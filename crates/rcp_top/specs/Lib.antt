@@ -2,8 +2,7 @@ pub mod Reading
 pub mod Finds
 pub mod Stops
 pub mod Read
-pub mod Lines
-pub mod PatternLines
+pub mod PatternText
 pub mod Check
 pub mod Thin
 pub mod Ideal

@@ -6,13 +6,13 @@ use Rattle.rcp_base.specs.declared.sink.WriteError.TheVariants as write
 use Rattle.rcp_base.specs.Files.{Files, IfTold, Rises}
 use Rattle.rcp_base.specs.States.{FolderState, SinkState, HasFailed, IsUnread}
 use Rattle.rcp_base.specs.Writing.{AppendsFront}
+use Rattle.trace_text.specs.PlanLines.{pattern_refused_line}
+use Rattle.trace_text.specs.Refusals.{unreadable_line, usage_line, task_refused_line, journal_refused_line}
 use Rattle.rcp_top.specs.declared.status.Status.{Status}
 use Rattle.rcp_top.specs.declared.status.Status.TheVariants as status
 use Rattle.rcp_top.specs.declared.stop.Refusal.{Refusal}
 use Rattle.rcp_top.specs.declared.stop.Refusal.TheVariants as refusal
 use Rattle.rcp_top.specs.Forms.{Form, form_of, work_of}
-use Rattle.rcp_top.specs.Lines.{unreadable_line, usage_line, task_refused_line, journal_refused_line}
-use Rattle.rcp_top.specs.PatternLines.{pattern_refused_line}
 use Rattle.rcp_top.specs.Reading.{End, end_over, names_read}
 
 -- a status and a text

@@ -1,16 +1,17 @@
 -- `thin FILE`: a plan's votes without those that can be spared, and how soon they recover. This project's own.
-use Rattle.std.specs.Prelude.{◌≡◌, ℕ, ◌-◌, List, ◌++◌, codes}
-use Rattle.std.specs.Fmt.{decimal}
+use Rattle.std.specs.Prelude.{◌≡◌, ℕ, ◌-◌, List, ◌++◌}
 use Rattle.rcp_model.specs.declared.node.Node.{Node}
 use Rattle.rcp_model.specs.declared.plan.PlanParts.{PlanParts}
 use Rattle.rcp_model.specs.PlanGraph.{graph_of_plan, voted_count}
 use Rattle.rcp_model.specs.Shown.{recovery_length, witness_walk}
 use Rattle.rcp_model.specs.Thinning.{thinned}
 use Rattle.rcp_model.specs.Walk.{Graph}
+use Rattle.trace_text.specs.declared.label.Label.TheVariants as label
+use Rattle.trace_text.specs.Lines.{count_line}
 use Rattle.vote_pattern.specs.Votes.{AreVotesOf}
 use Rattle.rcp_top.specs.declared.thin.Thin.{Thin}
 use Rattle.rcp_top.specs.declared.thin.Thinned.{Thinned}
-use Rattle.rcp_top.specs.PatternLines.{pattern_text, recovery_text}
+use Rattle.rcp_top.specs.PatternText.{pattern_text, recovery_text}
 use Rattle.rcp_top.specs.Read.{plan_at, shown}
 use Rattle.rcp_top.specs.Reading.{Reading, ◌>>=◌}
 
@@ -22,14 +23,11 @@ thinned_graph plan = thinned plan.recovery_limit (graph_of_plan plan)
 abbrev pub spared_count : PlanParts → ℕ
 spared_count plan = voted_count (graph_of_plan plan) - voted_count (thinned_graph plan)
 
--- `spared COUNT`
-unfoldable pub spared_line : ℕ → List ℕ
-spared_line count = codes "spared " ++ decimal count ++ codes "\n"
-
 -- the text of `thin`, by the votes that were spared, the recovery length and the walk
 unfoldable pub thin_text : PlanParts → ℕ → ℕ → List Node → List ℕ
 thin_text plan spared length walk =
-    pattern_text plan.cells (thinned_graph plan) ++ (spared_line spared ++ recovery_text plan.cells length walk)
+    pattern_text plan.cells (thinned_graph plan)
+    ++ (count_line label.Spared spared ++ recovery_text plan.cells length walk)
 
 -- the analysis of a plan's thinned pattern
 abbrev pub thinning_text : PlanParts → List ℕ

@@ -1,6 +1,5 @@
 //! `check FILE`: the analysis of a plan's vote pattern.
 //! This project's own.
-ghost use Rattle.std.specs.Prelude.{◌≡◌, IfOk, flat_map};
 ghost use Rattle.rcp_base.specs.Adding.{Adds};
 ghost use Rattle.rcp_base.specs.States.{IsLater};
 ghost use Rattle.rcp_base.specs.Writing.{Writes};
@@ -11,16 +10,15 @@ ghost use Rattle.rcp_top.specs.Check as spec;
 ghost use Rattle.rcp_top.specs.Check.{ShowsCheck, check_of};
 
 use crate::judge::Judged;
-use crate::lines::put;
 use crate::pattern_text::{write_pattern, write_recovery};
 use crate::read::read_plan_at;
-use crate::send::add;
+use crate::send::add_made;
 use crate::shown::Shown;
 use crate::stop::Stop;
-use rcp_base::{Folder, List, Memory, Name, Sink, WriteError};
-use rcp_model::{Node, PlanParts, Task, Variable};
+use rcp_base::{Folder, Sink, WriteError};
+use rcp_model::{Node, Plan};
 use std::alloc::Global;
-use task_lang::print_body;
+use trace_text::Lines;
 use vote_pattern::Pattern;
 
 /// A plan with its vote pattern, and how soon that recovers.
@@ -48,11 +46,16 @@ pub fn read_check<'a, F: Folder>(
 impl Shown for Check {
     ghost shows = { ShowsCheck };
 
-    fn write<S: Sink>(self, alloc: Global, out: &mut S) -> Result<(), WriteError> {
+    fn write<S: Sink>(
+        self,
+        _alloc: Global,
+        lines: &mut Lines,
+        out: &mut S,
+    ) -> Result<(), WriteError> {
         let judged = &self.judged;
         write_check(
-            alloc,
-            judged.plan.parts(),
+            lines,
+            &judged.plan,
             &self.pattern,
             judged.length,
             judged.walk.as_slice(),
@@ -64,8 +67,8 @@ impl Shown for Check {
 // Writes the tasks, the votes of a plan, and how soon they recover.
 #[tactic(auto, using(rcp_base::proofs::AddingLaws::adds_all), unfolding(crate::specs::Check::check_text))]
 fn write_check<S: Sink>(
-    alloc: Global,
-    plan: &PlanParts,
+    lines: &mut Lines,
+    plan: &Plan,
     pattern: &Pattern,
     length: u32,
     walk: &[Node],
@@ -75,81 +78,22 @@ fn write_check<S: Sink>(
     ensures { Writes (S.state out.old) (S.state out.new) result
         (spec.check_text plan.now length walk.now) }
 {
-    let cells = plan.cells.as_slice();
-    let so_far = write_tasks(alloc, plan, out, Ok(()));
-    let so_far = write_pattern(alloc, cells, pattern, out, so_far);
-    write_recovery(alloc, cells, length, walk, out, so_far)
-}
-
-// The names of sensors or cells.
-fn names_of(alloc: Global, variables: &[Variable]) -> Result<List<Name>, Memory>
-    ensures { IfOk result (λ names. names ≡ spec.names_of variables.now) }
-{
-    let mut names = List::new(alloc);
-    for variable in variables {
-        names.push(variable.name)?;
-    }
-    Ok(names)
+    let so_far = write_tasks(lines, plan, out, Ok(()));
+    let so_far = write_pattern(lines, plan, pattern, out, so_far);
+    write_recovery(lines, plan, length, walk, out, so_far)
 }
 
 // A line for each task.
-#[tactic(auto, using(rcp_base::proofs::AddingLaws::adds_memory))]
 fn write_tasks<S: Sink>(
-    alloc: Global,
-    plan: &PlanParts,
-    out: &mut S,
-    so_far: Result<(), WriteError>,
-) -> Result<(), WriteError>
-    ensures { Adds (S.state out.old) (S.state out.new) so_far result
-        (spec.task_lines plan.now) }
-{
-    let sensors = names_of(alloc, plan.sensors.as_slice())?;
-    let cells = names_of(alloc, plan.cells.as_slice())?;
-    write_task_lines(
-        alloc,
-        plan.tasks.as_slice(),
-        sensors.as_slice(),
-        cells.as_slice(),
-        out,
-        so_far,
-    )
-}
-
-fn write_task_lines<S: Sink>(
-    alloc: Global,
-    tasks: &[Task],
-    sensors: &[Name],
-    cells: &[Name],
+    lines: &mut Lines,
+    plan: &Plan,
     out: &mut S,
     mut so_far: Result<(), WriteError>,
 ) -> Result<(), WriteError>
-    ensures { Adds (S.state out.old) (S.state out.new) so_far result
-        (flat_map (spec.task_line sensors.now cells.now) tasks.now) }
+    ensures { Adds (S.state out.old) (S.state out.new) so_far result (spec.task_lines plan.now) }
 {
-    for task in tasks {
-        so_far = add(out, so_far, task_line(alloc, task, sensors, cells));
+    for task in 0..plan.parts().tasks.len() {
+        so_far = add_made(out, so_far, lines.task(plan, task as u32));
     }
     so_far
-}
-
-// `task NAME BODY`
-#[tactic(auto, unfolding(crate::specs::Check::task_line))]
-fn task_line(
-    alloc: Global,
-    task: &Task,
-    sensors: &[Name],
-    cells: &[Name],
-) -> Result<Vec<u8>, Memory>
-    ensures { IfOk result (λ line. line.items ≡ spec.task_line sensors.now cells.now task.now) }
-{
-    let mut line = Vec::new(alloc);
-    put(&mut line, b"task ")?;
-    put(&mut line, task.name.bytes())?;
-    put(&mut line, b" ")?;
-    put(
-        &mut line,
-        print_body(alloc, task, sensors, cells)?.as_slice(),
-    )?;
-    put(&mut line, b"\n")?;
-    Ok(line)
 }

@@ -1,7 +1,8 @@
 //! `ideal FILE JOURNAL`: the run of one faultless processor.
 //! After NASA TM-102716.
-ghost use Rattle.std.specs.Prelude.{◌≡◌, ◌^◌, ◌<◌, ℕ, ℤ, List, [], ◌∷◌, length, slice_index_or, IfOk};
+ghost use Rattle.std.specs.Prelude.{◌≡◌, ◌^◌, ◌<◌, ◌≤◌, ℤ, List, [], ◌∷◌, length, Some};
 ghost use Rattle.rcp_base.specs.Adding.{Adds};
+ghost use Rattle.rcp_base.specs.declared.TheConstants.{MAX_CELLS};
 ghost use Rattle.rcp_base.specs.States.{IsLater};
 ghost use Rattle.rcp_base.specs.Writing.{Writes};
 ghost use Rattle.fault_journal.specs.Telling.{IsJournalOf, history_in};
@@ -10,14 +11,11 @@ ghost use Rattle.rcp_model.specs.History.{History};
 ghost use Rattle.rcp_model.specs.FrameLimits.{IsFrameOf};
 ghost use Rattle.rcp_model.specs.FrameRows.{no_rows};
 ghost use Rattle.rcp_model.specs.Uniprocessor.{ideal_command, initial_values};
-ghost use Rattle.rcp_model.specs.declared.plan.ActuatorRow.{ActuatorRow};
-ghost use Rattle.rcp_model.specs.declared.plan.PlanParts.{PlanParts};
 ghost use Rattle.uniproc_layer.specs.Uni.{StandsAfter};
 ghost use Rattle.rcp_top.specs.Finds.{Finds};
 ghost use Rattle.rcp_top.specs.Ideal as spec;
 ghost use Rattle.rcp_top.specs.Ideal.{ShowsIdeal, ideal_of};
 
-use crate::lines::{end_line, frame_line, ideal_line, vote_line};
 use crate::read::{read_journal_at, read_plan_at};
 use crate::send::add;
 use crate::shown::Shown;
@@ -27,6 +25,7 @@ use layer_stack::{FrameIn, Inputs};
 use rcp_base::{Folder, Sink, WriteError};
 use rcp_model::{Plan, PlanParts};
 use std::alloc::Global;
+use trace_text::{Label, Lines};
 use uniproc_layer::Uni;
 
 /// A plan, and a journal of it before its first frame.
@@ -55,23 +54,19 @@ pub fn read_ideal<'a, F: Folder>(
 impl Shown for Ideal {
     ghost shows = { ShowsIdeal };
 
-    fn write<S: Sink>(self, alloc: Global, out: &mut S) -> Result<(), WriteError> {
+    fn write<S: Sink>(
+        self,
+        alloc: Global,
+        lines: &mut Lines,
+        out: &mut S,
+    ) -> Result<(), WriteError> {
         let mut journal = self.journal;
-        write_ideal(alloc, &self.plan, &mut journal, out)
+        write_ideal(alloc, lines, &self.plan, &mut journal, out)
     }
 }
 
-// The command of the actuator with this number, after a frame.
-fn command_of(uni: &Uni, number: u32) -> i64
-    ensures { (plan : PlanParts) (sensors : List ℤ) (past : List (List ℤ)) (d : ActuatorRow)
-        → StandsAfter plan (sensors ∷ past) uni.now → number < length plan.actuators
-        → result ≡ ideal_command plan (slice_index_or plan.actuators number d) sensors past }
-{
-    uni.command(number).unwrap_or(0)
-}
-
 fn write_votes<S: Sink>(
-    alloc: Global,
+    lines: &mut Lines,
     plan: &PlanParts,
     uni: &Uni,
     out: &mut S,
@@ -82,44 +77,43 @@ fn write_votes<S: Sink>(
         → StandsAfter plan.now (sensors ∷ past) uni.now
         → Adds (S.state out.old) (S.state out.new) so_far result
         (spec.vote_lines plan.now.actuators
-        (λ actuator. ideal_command plan.now actuator sensors past)) }
+        (λ actuator. Some (ideal_command plan.now actuator sensors past))) }
 {
     let actuators = plan.actuators.as_slice();
     for number in 0..actuators.len() {
-        let actuator = &actuators[number];
-        let value = command_of(uni, number as u32);
-        so_far = add(out, so_far, vote_line(alloc, &actuator.name, value));
+        let command = uni.command(number as u32);
+        so_far = add(out, so_far, lines.vote(&actuators[number].name, command));
     }
     so_far
 }
 
 // The lines of frame t, after which the processor stands.
 fn write_frame<S: Sink>(
-    alloc: Global,
+    lines: &mut Lines,
     plan: &PlanParts,
     uni: &Uni,
     t: u32,
     out: &mut S,
     so_far: Result<(), WriteError>,
 ) -> Result<(), WriteError>
-    requires { length plan.now.actuators < 2 ^ 32 }
+    requires few { length plan.now.actuators < 2 ^ 32 }
+    requires cells { length plan.now.cells ≤ MAX_CELLS }
+    requires stands { (sensors : List ℤ) × (past : List (List ℤ))
+        × StandsAfter plan.now (sensors ∷ past) uni.now }
     ensures { (sensors : List ℤ) (past : List (List ℤ))
         → StandsAfter plan.now (sensors ∷ past) uni.now
         → Adds (S.state out.old) (S.state out.new) so_far result
         (spec.next_frame_text plan.now sensors t past) }
 {
-    let so_far = add(out, so_far, frame_line(alloc, t));
-    let so_far = write_votes(alloc, plan, uni, out, so_far);
-    add(
-        out,
-        so_far,
-        ideal_line(alloc, uni.slot() as u64, uni.cells()),
-    )
+    let so_far = add(out, so_far, lines.frame(t));
+    let so_far = write_votes(lines, plan, uni, out, so_far);
+    add(out, so_far, lines.ideal(uni.slot(), uni.cells()))
 }
 
 // Runs all frames of the inputs, and writes their lines and the end line.
+// Takes no memory but what the sink takes.
 fn run_frames<I: Inputs, S: Sink>(
-    alloc: Global,
+    lines: &mut Lines,
     plan: &PlanParts,
     uni: &mut Uni,
     inputs: &mut I,
@@ -127,6 +121,7 @@ fn run_frames<I: Inputs, S: Sink>(
     out: &mut S,
 ) -> Result<(), WriteError>
     requires few { length plan.now.actuators < 2 ^ 32 }
+    requires cells { length plan.now.cells ≤ MAX_CELLS }
     requires start { StandsAfter plan.now [] uni.old }
     requires inputs { (history : History)
         × I.tells inputs.old plan.now history × IsHistoryOf plan.now history }
@@ -143,17 +138,18 @@ fn run_frames<I: Inputs, S: Sink>(
     for t in 0..frames {
         inputs.fill(input);
         uni.frame(input.sensors());
-        so_far = write_frame(alloc, plan, uni, t, out, so_far);
+        so_far = write_frame(lines, plan, uni, t, out, so_far);
         if so_far.is_err() {
             return so_far;
         }
     }
-    add(out, so_far, end_line(alloc, frames))
+    add(out, so_far, lines.count(Label::End, frames as u64))
 }
 
 // Runs all frames of a journal by a processor before its first frame.
 fn run_journal<S: Sink>(
     alloc: Global,
+    lines: &mut Lines,
     plan: &Plan,
     uni: &mut Uni,
     journal: &mut Journal,
@@ -165,12 +161,13 @@ fn run_journal<S: Sink>(
         (spec.ideal_text plan.now (spec.sensors_of_history (history_in plan.now journal.old))) }
 {
     let mut input = FrameIn::new(alloc, plan)?;
-    run_frames(alloc, plan.parts(), uni, journal, &mut input, out)
+    run_frames(lines, plan.parts(), uni, journal, &mut input, out)
 }
 
 // Writes the text of the single processor over the frames of a journal.
 fn write_ideal<S: Sink>(
     alloc: Global,
+    lines: &mut Lines,
     plan: &Plan,
     journal: &mut Journal,
     out: &mut S,
@@ -180,5 +177,5 @@ fn write_ideal<S: Sink>(
         (spec.ideal_text plan.now (spec.sensors_of_history (history_in plan.now journal.old))) }
 {
     let mut uni = Uni::new(alloc, plan)?;
-    run_journal(alloc, plan, &mut uni, journal, out)
+    run_journal(alloc, lines, plan, &mut uni, journal, out)
 }

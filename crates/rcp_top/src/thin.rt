@@ -10,7 +10,6 @@ ghost use Rattle.rcp_top.specs.Finds.{Finds};
 ghost use Rattle.rcp_top.specs.Thin as spec;
 ghost use Rattle.rcp_top.specs.Thin.{IsThinned, ShowsThin, thin_of, thinned_graph};
 
-use crate::lines::{put, put_count};
 use crate::pattern_text::{write_pattern, write_recovery};
 use crate::read::read_plan_at;
 use crate::send::add;
@@ -18,10 +17,11 @@ use crate::shown::Shown;
 use crate::stop::Stop;
 use pattern_thinning::thin;
 use rcp_base::{Folder, List, Memory, Sink, WriteError};
-use rcp_model::{Node, Plan, PlanParts};
+use rcp_model::{Node, Plan};
 use recovery_analysis::{Verdict, analyse};
 use std::alloc::Global;
 use task_graph::DepRows;
+use trace_text::{Label, Lines};
 use vote_pattern::Pattern;
 
 /// A vote pattern without the votes that could be spared, how many they were, and how soon it recovers.
@@ -86,11 +86,16 @@ fn thinned_pattern(alloc: Global, plan: &Plan) -> Result<Thinned, Memory>
 impl Shown for Thin {
     ghost shows = { ShowsThin };
 
-    fn write<S: Sink>(self, alloc: Global, out: &mut S) -> Result<(), WriteError> {
+    fn write<S: Sink>(
+        self,
+        _alloc: Global,
+        lines: &mut Lines,
+        out: &mut S,
+    ) -> Result<(), WriteError> {
         let thinned = &self.thinned;
         write_thin(
-            alloc,
-            self.plan.parts(),
+            lines,
+            &self.plan,
             &thinned.pattern,
             thinned.spared,
             thinned.length,
@@ -103,8 +108,8 @@ impl Shown for Thin {
 // Writes the votes that are left of a plan's, how many were spared, and how soon they recover.
 #[tactic(auto, using(rcp_base::proofs::AddingLaws::adds_all), unfolding(crate::specs::Thin::thin_text))]
 fn write_thin<S: Sink>(
-    alloc: Global,
-    plan: &PlanParts,
+    lines: &mut Lines,
+    plan: &Plan,
     pattern: &Pattern,
     spared: u32,
     length: u32,
@@ -115,20 +120,7 @@ fn write_thin<S: Sink>(
     ensures { Writes (S.state out.old) (S.state out.new) result
         (spec.thin_text plan.now spared length walk.now) }
 {
-    let cells = plan.cells.as_slice();
-    let so_far = write_pattern(alloc, cells, pattern, out, Ok(()));
-    let so_far = add(out, so_far, spared_line(alloc, spared));
-    write_recovery(alloc, cells, length, walk, out, so_far)
-}
-
-// `spared COUNT`
-#[tactic(auto, unfolding(crate::specs::Thin::spared_line))]
-fn spared_line(alloc: Global, count: u32) -> Result<Vec<u8>, Memory>
-    ensures { IfOk result (λ line. line.items ≡ spec.spared_line count) }
-{
-    let mut line = Vec::new(alloc);
-    put(&mut line, b"spared ")?;
-    put_count(alloc, &mut line, count as u64)?;
-    put(&mut line, b"\n")?;
-    Ok(line)
+    let so_far = write_pattern(lines, plan, pattern, out, Ok(()));
+    let so_far = add(out, so_far, lines.count(Label::Spared, spared as u64));
+    write_recovery(lines, plan, length, walk, out, so_far)
 }

@@ -10,12 +10,12 @@ ghost use Rattle.rcp_top.specs.Reading.{Does};
 use crate::check::read_check;
 use crate::form::{Form, form_of};
 use crate::ideal::read_ideal;
-use crate::lines::usage_line;
 use crate::shown::{end, finish};
 use crate::status::Status;
 use crate::thin::read_thin;
-use rcp_base::{Folder, Sink};
+use rcp_base::{Folder, Memory, Sink};
 use std::alloc::Global;
+use trace_text::Lines;
 
 /// Does all that the program does with the words after its name: reads the files that they name, and writes what is due.
 /// Each line is one call of the sink.
@@ -40,9 +40,13 @@ pub fn rcp<F: Folder, S: Sink>(
         → Rises (S.state out.old).faults (S.state out.new).faults }
     ensures files { (F.state folder.new).files ≡ (F.state folder.old).files }
 {
+    let mut lines = match Lines::new(alloc) {
+        Ok(lines) => lines,
+        Err(Memory) => return Status::Memory,
+    };
     match form_of(words) {
-        Some(form) => run_form(alloc, form, folder, out),
-        None => end(Status::Usage, out.write_all(usage_line())),
+        Some(form) => run_form(alloc, form, folder, &mut lines, out),
+        None => end(Status::Usage, out.write_all(lines.usage())),
     }
 }
 
@@ -51,6 +55,7 @@ fn run_form<F: Folder, S: Sink>(
     alloc: Global,
     form: Form<'_>,
     folder: &mut F,
+    lines: &mut Lines,
     out: &mut S,
 ) -> Status
     ensures does { Does (F.state folder.old) (F.state folder.new) (work_of (form_in form.entry))
@@ -59,10 +64,10 @@ fn run_form<F: Folder, S: Sink>(
     ensures later { IsLater (F.state folder.old) (F.state folder.new) }
 {
     match form {
-        Form::Check { file } => finish(alloc, read_check(alloc, folder, file), out),
-        Form::Thin { file } => finish(alloc, read_thin(alloc, folder, file), out),
+        Form::Check { file } => finish(alloc, read_check(alloc, folder, file), lines, out),
+        Form::Thin { file } => finish(alloc, read_thin(alloc, folder, file), lines, out),
         Form::Ideal { file, journal } => {
-            finish(alloc, read_ideal(alloc, folder, file, journal), out)
+            finish(alloc, read_ideal(alloc, folder, file, journal), lines, out)
         }
     }
 }

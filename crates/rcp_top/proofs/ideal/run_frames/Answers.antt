@@ -1,7 +1,8 @@
 -- The frame that is written is the one after which the processor stands, and what is left is to be written.
-use Rattle.std.proofs.Common.{◌≡◌, ◌≤◌, ℤ, List, IfOk, length, sym, ◌∙◌, subst, arith}
+use Rattle.std.proofs.Common.{◌≡◌, ◌≤◌, ℤ, List, length, ap, sym, ◌∙◌, arith}
 use Rattle.rcp_base.proofs.AddingLaws.{halfway_start, halfway_as, halfway_stop, halfway_last}
-use Rattle.rcp_top.specs.Lines.{end_line}
+use Rattle.trace_text.specs.declared.label.Label.TheVariants as label
+use Rattle.trace_text.specs.Lines.{count_line}
 use Rattle.rcp_top.specs.Ideal.{sensors_of_history}
 use Rattle.rcp_top.proofs.FrameLemmas.{past_frames, rest_at_start, rest_at_end, stands_after_next, frame_more}
 use Rattle.rcp_top.proofs.HistoryLaws.{before_the_first, frame_at, after_the_next, as_many}
@@ -17,6 +18,13 @@ loop-t-init g c = (
     text = halfway_as _ _ (sym (rest_at_start c.args.plan.now (sensors_of_history history))) (halfway_start _ _);
   },
 )
+
+pub write_frame-so_far-requires-clause-stands : goal.write_frame-so_far-requires-clause-stands
+write_frame-so_far-requires-clause-stands g c =
+    let history = c.requires.inputs.0 in
+    let so_far = c.loop-t.invariant.1 history c.requires.inputs.1 c.requires.inputs.2 in
+    let past = past_frames (sensors_of_history history) c.loop-t.t in
+    (c.sensors.result.now, past, c.frame.ensures c.args.plan.now past so_far.uni)
 
 pub returns-then-is_err : goal.returns-then-is_err
 returns-then-is_err g c history tells are =
@@ -55,6 +63,7 @@ returns g c history tells are =
     let frames : List (List ℤ) = sensors_of_history history in
     let all = c.frames-frames.ensures c.args.plan.now history tells in
     let least : length frames ≤ c.loop-t.t = omega (arith, c.loop-t-test.false, all, as_many history) in
-    let line = subst (λ n. IfOk c.end_line.result (λ line. line.items ≡ end_line n)) (all ∙ sym (as_many history)) c.end_line.ensures in
-    halfway_last (g.S.Sink.state c.add.new.out) c.add.result (end_line (length frames))
-    (halfway_as _ _ (rest_at_end c.args.plan.now frames c.loop-t.t least) so_far.text) (c.add.ensures (end_line (length frames)) line)
+    let last = count_line label.End (length frames) in
+    let line : c.count.result.now ≡ last = c.count.ensures ∙ ap (count_line label.End) (all ∙ sym (as_many history)) in
+    halfway_last (g.S.Sink.state c.add.new.out) c.add.result last
+    (halfway_as _ _ (rest_at_end c.args.plan.now frames c.loop-t.t least) so_far.text) (rw line at c.add.ensures)

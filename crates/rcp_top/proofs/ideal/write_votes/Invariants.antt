@@ -1,5 +1,5 @@
 -- After a frame, the lines of the actuators so far were added.
-use Rattle.std.proofs.Common.{ℤ, List, ◌∷◌, take}
+use Rattle.std.proofs.Common.{ℤ, List, ◌∷◌, take, Some}
 use Rattle.rcp_base.specs.Adding.{Adds}
 use Rattle.rcp_model.specs.Uniprocessor.{ideal_command}
 use Rattle.uniproc_layer.specs.Uni.{StandsAfter}
@@ -10,4 +10,4 @@ abbrev pub invariant-loop-number : goal.invariant-loop-number
 invariant-loop-number g l =
     (sensors : List ℤ) (past : List (List ℤ)) → StandsAfter l.plan (sensors ∷ past) l.uni
     → Adds (g.S.Sink.state l.initial.out) (g.S.Sink.state l.out) l.initial.so_far l.so_far
-    (vote_lines (take l.number l.plan.actuators) (λ actuator. ideal_command l.plan actuator sensors past))
+    (vote_lines (take l.number l.plan.actuators) (λ actuator. Some (ideal_command l.plan actuator sensors past)))
