@@ -17,7 +17,8 @@ use replica_parts::{
     command_all, compute_all, hold_all, keep_all, vote_all, write_owns, write_rows,
 };
 
-// Runs a frame up to what the replicas hold: they compute, say it to each other, hear, vote and sync, and rows overwrite.
+// Runs a frame up to what the replicas hold: they compute, send, hear, vote and sync, and rows
+// overwrite.
 fn vote_and_hold(layer: &mut Replicated, input: &FrameIn)
     requires { CanRunFrame (IsAt layer.old) input.now }
     ensures room { HaveRoom layer.new }
@@ -78,7 +79,8 @@ fn vote_and_hold(layer: &mut Replicated, input: &FrameIn)
     layer.done += 1;
 }
 
-/// Runs a frame: after all that, replicas command, and letters that are still on their way stay.
+/// Runs a frame of all replicas: up to what they hold, then their commands, and then which letters
+/// are still on their way. Takes no memory.
 pub fn run_frame(layer: &mut Replicated, input: &FrameIn)
     requires { CanRunFrame (IsAt layer.old) input.now }
     ensures { (plan : PlanParts) (state : SystemState)

@@ -33,7 +33,8 @@ pub struct Replicated {
     pub(crate) commands: Vec<Vec<Option<i64>>>,
     // Those still on their way, by receiver and sender.
     pub(crate) letters: Vec<Vec<Post>>,
-    // Of the frame at hand: what is computed and said by replica, the letters by receiver and sender, and places for a vote.
+    // Of the frame at hand: what each replica computed and says, the letters by receiver and sender,
+    // and places for one vote.
     pub(crate) computed: Vec<Held>,
     pub(crate) own: Vec<Message>,
     pub(crate) fresh: Vec<Vec<Post>>,

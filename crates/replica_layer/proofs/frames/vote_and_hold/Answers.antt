@@ -1,4 +1,4 @@
-use Rattle.std.proofs.Common.{◌≡◌, sym, ◌∙◌, ap, ap₂, get_or, ℕ, ℤ, List, map, subst}
+use Rattle.std.proofs.Common.{◌≡◌, refl, sym, ◌∙◌, ap, ap₂, get_or, ℕ, ℤ, List, map, subst}
 use Rattle.rcp_base.specs.Tables.{table}
 use Rattle.rcp_model.specs.Messages.{letter_to}
 use Rattle.rcp_model.specs.System.{fresh_letter, next_state}
@@ -45,3 +45,6 @@ returns-clause-held c = λ plan state h f.
     c.hold_all.ensures.held plan (next_state plan state c.args.input.now).ballots h.setting
     (subst (λ (xs : List Ballot). AreBallots plan.replicas xs (next_state plan state c.args.input.now).ballots) (sym c.as_slice-8.ensures.value) (returns-clause-ballots c plan state h f))
     ∙ held_next plan c.args.input.now state c.args.layer.now.held.items h.replicas
+
+pub returns-clause-done : goal.returns-clause-done
+returns-clause-done c = refl
