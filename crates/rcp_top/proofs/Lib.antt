@@ -9,3 +9,5 @@ mod EndingLemmas
 mod ReadingLaws
 mod LawLemmas
 mod PatternLemmas
+mod PrintedLemmas
+mod GuardLemmas

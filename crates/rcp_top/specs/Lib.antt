@@ -9,3 +9,6 @@ pub mod Ideal
 pub mod Forms
 pub mod Outcome
 pub mod Laws
+pub mod Replay
+pub mod Printed
+pub mod Headline
