@@ -11,3 +11,4 @@ mod LawLemmas
 mod PatternLemmas
 mod PrintedLemmas
 mod GuardLemmas
+mod LineShapes

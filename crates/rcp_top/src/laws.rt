@@ -1,6 +1,11 @@
 //! What follows from the clause `ends` of the top call, for all calls.
 //! This project's own.
+ghost use Rattle.rcp_top.specs.Headline.{CutReplaysAreIdealUnderTheGuard, GuardsAreTested, ReplaysAreIdealUnderTheGuard};
 ghost use Rattle.rcp_top.specs.Laws.{AnalysesAreRight, ARunThatCanFinishDoes, NoFailedReadLeavesNoChoice, PatternsAreRefusedAtCycles};
+
+use layer_stack::laws::replicas_recover;
+use rcp_model::laws::frames::histories_go_by_frames;
+use task_file::laws::accepted_files_are_plans;
 
 /// Where no read failed, a call ends as is due over the folder's own files.
 pub fn no_failed_read_leaves_no_choice()
@@ -21,3 +26,25 @@ pub fn patterns_are_refused_at_cycles()
 pub fn analyses_are_right()
     ensures { AnalysesAreRight }
 {}
+
+/// The guard that `replay` prints after a frame is the guard.
+pub fn guards_are_tested()
+    ensures { GuardsAreTested }
+{}
+
+/// Under the guard `replay` prints the votes that `ideal` prints, and for each working replica the slot and the cells of the
+/// single processor, byte for byte.
+pub fn replays_are_ideal_under_the_guard()
+    ensures { ReplaysAreIdealUnderTheGuard }
+{
+    replicas_recover();
+    histories_go_by_frames();
+    accepted_files_are_plans();
+}
+
+/// The same of a replay that was cut short, as far as it was written.
+pub fn cut_replays_are_ideal_under_the_guard()
+    ensures { CutReplaysAreIdealUnderTheGuard }
+{
+    replays_are_ideal_under_the_guard();
+}
