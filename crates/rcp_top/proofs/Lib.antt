@@ -12,3 +12,4 @@ mod PatternLemmas
 mod PrintedLemmas
 mod GuardLemmas
 mod LineShapes
+mod FrameLines
