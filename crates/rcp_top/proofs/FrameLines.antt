@@ -101,7 +101,7 @@ mapped_frames line [] are = tt
 mapped_frames line (x ∷ xs) are = (are x, mapped_frames line xs are)
 
 -- the names of actuators have no line feed
-abbrev AreNamed : List ActuatorRow → Type 0
+abbrev pub AreNamed : List ActuatorRow → Type 0
 AreNamed [] = ⊤
 AreNamed (actuator ∷ actuators) = HasNoFeed actuator.name × AreNamed actuators
 
@@ -235,7 +235,7 @@ one_behind : (lines : List (List ℕ)) (line : List ℕ) → joined lines ++ lin
 one_behind lines line = ap (λ l. joined lines ++ l) (sym (append-nil line)) ∙ sym (joined_more lines (line ∷ []))
 
 module _ (word : List ℕ) (of_frames : IsOfFrames word) (plan : PlanParts) (named : AreNamed plan.actuators) where
-  ideal_split : (earlier : History) (rows : FrameRows) (later : History)
+  pub ideal_split : (earlier : History) (rows : FrameRows) (later : History)
       → lines_of_frame word (length earlier) (ideal_text plan (sensors_of_history (earlier ++ rows ∷ later)))
       ≡ lines_with word (ideal_rest plan rows (newest_first [] earlier))
   unfolding ideal_text
@@ -250,7 +250,7 @@ module _ (word : List ℕ) (of_frames : IsOfFrames word) (plan : PlanParts) (nam
       (joined_lines (lines ++ end ∷ []) (lines_joined lines (end ∷ []) (all_are_lines ideal_first (ideal_rest plan) are [] history) (end_is_line _, tt)))
       ∙ at_frame ideal_first (ideal_rest plan) are word (end ∷ []) (of_frames.end _) [] earlier rows later
 
-  replay_split : (recovery : ℕ) (earlier : History) (rows : FrameRows) (later : History)
+  pub replay_split : (recovery : ℕ) (earlier : History) (rows : FrameRows) (later : History)
       → lines_of_frame word (length earlier) (replay_text plan recovery (earlier ++ rows ∷ later))
       ≡ lines_with word (replay_rest plan recovery rows (newest_first [] earlier))
   unfolding replay_text

@@ -5,8 +5,6 @@ use Rattle.rcp_model.specs.FrameRows.{FrameRows}
 use Rattle.rcp_model.specs.Health.{MeetsGuard}
 use Rattle.rcp_top.specs.Headline.{GuardsAreTested}
 use Rattle.rcp_top.specs.Replay.{meets_guard}
-use Rattle.rcp_top.proofs.PrintedLemmas.{cut_front}
-use Rattle.rcp_top.proofs.FrameLines.{at_frame}
 
 pub guard_is_tested : GuardsAreTested
 guard_is_tested plan recovery [] = (λ _. tt, λ _. refl)

@@ -13,3 +13,5 @@ mod PrintedLemmas
 mod GuardLemmas
 mod LineShapes
 mod FrameLines
+mod HeadlineLemmas
+mod ReplayedLemmas
