@@ -1,4 +1,4 @@
-use Rattle.std.proofs.Common.{◌≡◌, ◌+◌, ◌≤◌, arith, ap, ◌∙◌, length, length-append, [], ◌∷◌}
+use Rattle.std.proofs.Common.{◌≡◌, ◌+◌, arith, ap, ◌∙◌, length, length-append, [], ◌∷◌}
 use Rattle.trace_text.proofs.PieceLemmas.{value_put}
 use Rattle.trace_text.proofs.lines.Lines.put_values.Goals as goal
 
