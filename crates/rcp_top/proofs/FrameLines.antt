@@ -1,23 +1,20 @@
 -- The texts of `ideal` and `replay` as their lines, and which of them are those of a frame.
-use Rattle.std.proofs.Common.{◌≡◌, ℕ, ℤ, zero, suc, ◌+◌, ◌<◌, ◌≤◌, Bool, true, false, cond, List, [], ◌∷◌, ◌++◌, length, map, flat_map, codes, get_or, take, drop, reverse, Option, Some, refl, sym, ap, ◌∙◌, subst, append_assoc, append-nil, inl, inr, arith}
+use Rattle.std.proofs.Common.{◌≡◌, ℕ, zero, suc, Bool, true, false, cond, List, [], ◌∷◌, ◌++◌, length, map, flat_map, codes, get_or, reverse, Some, refl, sym, ap, ◌∙◌, append_assoc, append-nil}
 use Rattle.std.specs.Prelude.{⊤, ◌&&◌}
 use Rattle.std.specs.List.{range_with_len, list_all}
-use Rattle.std.proofs.lemmas.Bool.{cases_Bool}
-use Rattle.std.proofs.lemmas.List.{reverse-append, length-take-le, drop_more, take-append-drop}
+use Rattle.std.proofs.lemmas.List.{reverse-append}
 use Rattle.rcp_base.specs.Name.{is_name}
 use Rattle.rcp_model.specs.declared.plan.ActuatorRow.{ActuatorRow}
 use Rattle.rcp_model.specs.declared.plan.PlanParts.{PlanParts}
-use Rattle.rcp_model.specs.FrameRows.{FrameRows, is_down}
-use Rattle.rcp_model.specs.Health.{is_working}
+use Rattle.rcp_model.specs.FrameRows.{FrameRows}
 use Rattle.rcp_model.specs.History.{History, sensors_of}
 use Rattle.rcp_model.specs.Plan.{actuator_names}
-use Rattle.rcp_model.specs.Slot.{actuator_at, no_actuator}
-use Rattle.rcp_model.specs.System.{state_after, actuator_vote}
+use Rattle.rcp_model.specs.Slot.{no_actuator}
 use Rattle.rcp_model.specs.Uniprocessor.{ideal_slot, ideal_cells, ideal_command}
 use Rattle.trace_text.specs.declared.label.Label.TheVariants as label
 use Rattle.trace_text.specs.Lines.{count_line, frame_line, frame_guard_line, vote_line, ideal_line}
-use Rattle.rcp_top.specs.Ideal.{vote_lines, frame_text, frames_text, ideal_text, sensors_of_history}
-use Rattle.rcp_top.specs.Printed.{lines_in, begins_with, is_frame_line, lines_after, lines_of_frame}
+use Rattle.rcp_top.specs.Ideal.{frame_text, frames_text, ideal_text, sensors_of_history}
+use Rattle.rcp_top.specs.Printed.{begins_with, is_frame_line, lines_after, lines_of_frame}
 use Rattle.rcp_top.specs.Replay.{meets_guard, voted_line, held_line, voted_lines, held_lines, replay_frame_text, replay_frames_text, replay_text}
 use Rattle.rcp_top.proofs.LineShapes.{free_name, frame_is_line, frame_guard_is_line, vote_is_line, ideal_is_line, replica_is_line, recovery_is_line, end_is_line, frame_begins, frame_guard_begins, vote_is_no_frame, replica_is_no_frame, ideal_is_no_frame}
 use Rattle.rcp_top.proofs.PrintedLemmas.{HasNoFeed, IsLine, AreLines, HasNoFrame, joined, joined_more, lines_with, lines_joined, joined_lines, no_frame_joined, passed_over, taken_here}
@@ -45,18 +42,19 @@ frames_lines first rest past (rows ∷ frames) =
     first rows past ∷ (rest rows past ++ frames_lines first rest (rows ∷ past) frames)
 
 -- of each frame the first line begins it, and no other does; all are lines
-pub record AreFrames (first : FrameRows → List FrameRows → List ℕ) (rest : FrameRows → List FrameRows → List (List ℕ)) : Type 0 where
+pub record AreFrameLines (first : FrameRows → List FrameRows → List ℕ) (rest : FrameRows → List FrameRows → List (List ℕ)) : Type 0 where
   pub begin : (rows : FrameRows) (past : List FrameRows) → is_frame_line (first rows past) ≡ true
   pub begun : (rows : FrameRows) (past : List FrameRows) → HasNoFrame (rest rows past)
   pub first_is : (rows : FrameRows) (past : List FrameRows) → IsLine (first rows past)
   pub rest_are : (rows : FrameRows) (past : List FrameRows) → AreLines (rest rows past)
 
-module _ (first : FrameRows → List FrameRows → List ℕ) (rest : FrameRows → List FrameRows → List (List ℕ)) (are : AreFrames first rest) where
+module _ (first : FrameRows → List FrameRows → List ℕ) (rest : FrameRows → List FrameRows → List (List ℕ)) (are : AreFrameLines first rest) where
   pub all_are_lines : (past : List FrameRows) (frames : History) → AreLines (frames_lines first rest past frames)
   all_are_lines past [] = tt
-  all_are_lines past (rows ∷ frames) =
-      (are.first_is rows past,
-        lines_joined (rest rows past) (frames_lines first rest (rows ∷ past) frames) (are.rest_are rows past) (all_are_lines (rows ∷ past) frames))
+  all_are_lines past (rows ∷ frames) = (
+    are.first_is rows past,
+    lines_joined (rest rows past) (frames_lines first rest (rows ∷ past) frames) (are.rest_are rows past) (all_are_lines (rows ∷ past) frames),
+  )
 
   module _ (word : List ℕ) (tail : List (List ℕ)) (ends : lines_after word zero tail ≡ []) where
     -- behind a frame's lines the next frame or the end follows
@@ -138,7 +136,7 @@ ideal_vote_lines : (plan : PlanParts) (rows : FrameRows) (past : List FrameRows)
 ideal_vote_lines plan rows past [] named = tt
 ideal_vote_lines plan rows past (a ∷ others) named = (vote_is_line a.name _ named.0, ideal_vote_lines plan rows past others named.1)
 
-ideal_frames : (plan : PlanParts) → AreNamed plan.actuators → AreFrames ideal_first (ideal_rest plan)
+ideal_frames : (plan : PlanParts) → AreNamed plan.actuators → AreFrameLines ideal_first (ideal_rest plan)
 ideal_frames plan named = record {
   begin = λ rows past. frame_begins _;
   begun = λ rows past.
@@ -161,9 +159,9 @@ ideal_text_lines plan past (rows ∷ frames) =
     let body : List ℕ = flat_map (ideal_vote plan rows past) plan.actuators ++ held in
     let more = frames_lines ideal_first (ideal_rest plan) (rows ∷ past) frames in
     let body_is : body ≡ joined (ideal_rest plan rows past) =
-        ap (λ vs. vs ++ held) (flat_is_joined (ideal_vote plan rows past) plan.actuators)
-        ∙ ap (λ l. joined votes ++ l) (sym (append-nil held))
-        ∙ sym (joined_more votes (held ∷ [])) in
+    ap (λ vs. vs ++ held) (flat_is_joined (ideal_vote plan rows past) plan.actuators)
+    ∙ ap (λ l. joined votes ++ l) (sym (append-nil held))
+    ∙ sym (joined_more votes (held ∷ [])) in
     append_assoc first body (frames_text plan (sensors_of (rows ∷ past)) (sensors_of_history frames))
     ∙ ap (λ ls. first ++ (body ++ ls)) (ideal_text_lines plan (rows ∷ past) frames)
     ∙ ap (λ ls. first ++ (ls ++ joined more)) body_is
@@ -180,7 +178,7 @@ abbrev pub replay_rest : PlanParts → ℕ → FrameRows → List FrameRows → 
 replay_rest plan recovery rows past =
     map (voted_line plan (rows ∷ past)) (actuator_numbers plan) ++ map (held_line plan recovery rows past) (range_with_len 0 plan.replicas)
 
-replay_frames : (plan : PlanParts) (recovery : ℕ) → AreNamed plan.actuators → AreFrames (replay_first plan recovery) (replay_rest plan recovery)
+replay_frames : (plan : PlanParts) (recovery : ℕ) → AreNamed plan.actuators → AreFrameLines (replay_first plan recovery) (replay_rest plan recovery)
 replay_frames plan recovery named = record {
   begin = λ rows past. frame_guard_begins _ _;
   begun = λ rows past.
@@ -205,9 +203,9 @@ replay_text_lines plan recovery past (rows ∷ frames) =
     let body : List ℕ = voted_lines plan (rows ∷ past) ++ held_lines plan recovery rows past in
     let more = frames_lines (replay_first plan recovery) (replay_rest plan recovery) (rows ∷ past) frames in
     let body_is : body ≡ joined (replay_rest plan recovery rows past) =
-        ap (λ vs. vs ++ held_lines plan recovery rows past) (flat_is_joined (voted_line plan (rows ∷ past)) (actuator_numbers plan))
-        ∙ ap (λ ls. joined votes ++ ls) (flat_is_joined (held_line plan recovery rows past) (range_with_len 0 plan.replicas))
-        ∙ sym (joined_more votes held) in
+    ap (λ vs. vs ++ held_lines plan recovery rows past) (flat_is_joined (voted_line plan (rows ∷ past)) (actuator_numbers plan))
+    ∙ ap (λ ls. joined votes ++ ls) (flat_is_joined (held_line plan recovery rows past) (range_with_len 0 plan.replicas))
+    ∙ sym (joined_more votes held) in
     append_assoc first body (replay_frames_text plan recovery (rows ∷ past) frames)
     ∙ ap (λ ls. first ++ (body ++ ls)) (replay_text_lines plan recovery (rows ∷ past) frames)
     ∙ ap (λ ls. first ++ (ls ++ joined more)) body_is
@@ -266,7 +264,9 @@ module _ (word : List ℕ) (of_frames : IsOfFrames word) (plan : PlanParts) (nam
       ap (λ text. lines_of_frame word (length earlier) (head ++ (text ++ end))) (replay_text_lines plan recovery [] history)
       ∙ ap (λ text. lines_of_frame word (length earlier) (head ++ text)) (one_behind lines end)
       ∙ ap (lines_after word n)
-      (joined_lines (head ∷ (lines ++ end ∷ [])) (recovery_is_line recovery,
-        lines_joined lines (end ∷ []) (all_are_lines first rest are [] history) (end_is_line _, tt)))
+      (joined_lines (head ∷ (lines ++ end ∷ [])) (
+        recovery_is_line recovery,
+        lines_joined lines (end ∷ []) (all_are_lines first rest are [] history) (end_is_line _, tt),
+      ))
       ∙ ap (λ (t : Bool). cond t (lines_after word (length earlier) (lines ++ end ∷ [])) (lines_after word n (lines ++ end ∷ []))) (of_frames.recovery recovery)
       ∙ at_frame first rest are word (end ∷ []) (of_frames.end _) [] earlier rows later

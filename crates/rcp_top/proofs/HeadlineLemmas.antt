@@ -1,12 +1,11 @@
 -- Under the guard `replay` prints what `ideal` prints.
-use Rattle.std.proofs.Common.{◌≡◌, ◌↔◌, ℕ, ℤ, zero, suc, ◌+◌, ◌<◌, Bool, true, false, not, cond, List, [], ◌∷◌, ◌++◌, length, map, codes, get_or, slice_get, take, drop, reverse, Option, None, Some, Result, Ok, Err, refl, sym, ap, ◌∙◌, subst, append_assoc, append-nil, inl, inr, arith}
+use Rattle.std.proofs.Common.{◌≡◌, ℕ, zero, suc, ◌+◌, ◌<◌, Bool, true, false, not, cond, List, [], ◌∷◌, ◌++◌, length, map, codes, get_or, slice_get, take, drop, Some, refl, sym, ap, ◌∙◌, subst, append-nil, inl, inr, arith}
 use Rattle.std.specs.Prelude.{◌&&◌, option_map, pos}
 use Rattle.std.specs.Fmt.{decimal}
 use Rattle.std.specs.List.{range_with_len}
 use Rattle.std.proofs.lemmas.Bool.{cases_Bool}
 use Rattle.std.proofs.lemmas.List.{length-take-le, drop_more, take-append-drop}
 use Rattle.std.proofs.lemmas.Option.{slice_get-map}
-use Rattle.rcp_model.specs.declared.plan.ActuatorRow.{ActuatorRow}
 use Rattle.rcp_model.specs.declared.plan.PlanParts.{PlanParts}
 use Rattle.rcp_model.specs.AtFrame.{rows_at, is_working_at, MeetsGuardAt}
 use Rattle.rcp_model.specs.FrameRows.{FrameRows, is_down, quiet_rows}
@@ -17,7 +16,7 @@ use Rattle.rcp_model.specs.Plan.{IsPlan}
 use Rattle.rcp_model.specs.PlanGraph.{graph_of_plan}
 use Rattle.rcp_model.specs.Slot.{no_actuator}
 use Rattle.rcp_model.specs.System.{state_after}
-use Rattle.rcp_model.specs.Uniprocessor.{ProcessorState, ideal_slot, ideal_cells, ideal_state, ideal_command}
+use Rattle.rcp_model.specs.Uniprocessor.{ProcessorState, ideal_state}
 use Rattle.rcp_model.specs.Walk.{HasNoWalk}
 use Rattle.rcp_model.proofs.HistoryLaws.{past_more}
 use Rattle.layer_stack.specs.Recovery.{MatchesIdeal, ReplicasRecover}
@@ -68,7 +67,7 @@ by_number by of d from [] same = refl
 by_number by of d from (x ∷ xs) same =
     let here : from ≡ from + 0 = omega arith in
     let rest = by_number by of d (from + 1) xs
-        (λ k lt. let e : from + 1 + k ≡ from + suc k = omega arith in ap by e ∙ same (suc k) (omega (arith, lt))) in
+    (λ k lt. let e : from + 1 + k ≡ from + suc k = omega arith in ap by e ∙ same (suc k) (omega (arith, lt))) in
     ap (λ y. y ∷ map by (range_with_len (from + 1) (length xs))) (ap by here ∙ same 0 (omega arith)) ∙ ap (λ ys. of x ∷ ys) rest
 
 -- a line by its number
@@ -217,7 +216,7 @@ module _ (recover : ReplicasRecover) (by_frames : HistoriesGoByFrames) where
             (ideal_split (codes "vote ") votes_are_of_frames plan named) history t lt);
         replicas = λ replica below works.
             let works_there : is_working plan recovery (rows ∷ past) replica ≡ true =
-                ap (λ frames. is_working plan recovery frames replica) (sym (past_more history t lt)) ∙ judges.working t replica lt ∙ works in
+            ap (λ frames. is_working plan recovery frames replica) (sym (past_more history t lt)) ∙ judges.working t replica lt ∙ works in
             record {
               state = state_text state.slot state.cells;
               single =

@@ -1,14 +1,13 @@
 -- Each line of a run has one line feed, at its end; and with which word it begins.
-use Rattle.std.proofs.Common.{◌≡◌, ◌≢◌, ℕ, ℤ, pos, negsuc, zero, suc, ◌+◌, ◌%◌, ◌/◌, ◌==◌, ◌&&◌, not, Bool, true, false, cond, List, [], ◌∷◌, ◌++◌, codes, Option, None, Some, refl, sym, ap, ◌∙◌, subst, append_assoc, inl, inr, arith}
-use Rattle.std.specs.Prelude.{nat_lt, ◌||◌}
-use Rattle.std.specs.Char.{is_ascii_lowercase, is_ascii_digit}
+use Rattle.std.proofs.Common.{◌≡◌, ℕ, ℤ, pos, negsuc, zero, suc, ◌+◌, ◌%◌, ◌/◌, ◌==◌, ◌&&◌, not, Bool, true, false, cond, List, [], ◌∷◌, ◌++◌, codes, Option, None, Some, refl, sym, ap, ◌∙◌, subst, append_assoc, inl, inr, arith}
+use Rattle.std.specs.Prelude.{nat_lt}
+use Rattle.std.specs.Char.{is_ascii_lowercase}
 use Rattle.std.specs.Fmt.{decimal, digits, digits_onto, digit_glyph, signed_decimal}
 use Rattle.std.specs.List.{list_all}
 use Rattle.std.proofs.lemmas.Bool.{cases_Bool, cases_eq, ne_eqb}
-use Rattle.rcp_base.specs.Name.{is_name, is_name_byte, is_word, is_reserved}
-use Rattle.trace_text.specs.declared.label.Label.{Label}
+use Rattle.rcp_base.specs.Name.{is_name, is_name_byte, is_word}
 use Rattle.trace_text.specs.declared.label.Label.TheVariants as label
-use Rattle.trace_text.specs.Lines.{numbers_text, yes_or_no, down_or_up, value_or_none, state_text, frame_line, frame_guard_line, vote_line, ideal_line, replica_line, label_word, count_line}
+use Rattle.trace_text.specs.Lines.{numbers_text, yes_or_no, down_or_up, value_or_none, state_text, frame_line, frame_guard_line, vote_line, ideal_line, replica_line, count_line}
 use Rattle.rcp_top.specs.Printed.{begins_with, is_frame_line}
 use Rattle.rcp_top.proofs.PrintedLemmas.{HasNoFeed, IsLine}
 

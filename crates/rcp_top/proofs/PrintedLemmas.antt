@@ -1,5 +1,5 @@
 -- Whole lines of joined lines, and the lines of a frame.
-use Rattle.std.proofs.Common.{◌≡◌, ℕ, zero, suc, ◌==◌, Bool, true, false, cond, if◌then◌else◌, List, [], ◌∷◌, ◌++◌, refl, sym, ap, ◌∙◌, append_assoc, inl, inr}
+use Rattle.std.proofs.Common.{◌≡◌, ℕ, zero, suc, ◌==◌, Bool, false, cond, if◌then◌else◌, List, [], ◌∷◌, ◌++◌, refl, sym, ap, ◌∙◌, append_assoc, inl, inr}
 use Rattle.std.specs.Prelude.{⊤}
 use Rattle.std.proofs.lemmas.Bool.{cases_Bool}
 use Rattle.rcp_top.specs.Printed.{lines_behind, lines_in, begins_with, is_frame_line, lines_after, lines_of_frame}
@@ -96,14 +96,18 @@ front_of_lines begun (b ∷ written) rest =
     let fed = front_of_lines [] written rest in
     let on = front_of_lines next written rest in
     elim (cases_Bool (b == 10)) [
-      | inl there ↦ (fed.0,
-          ap (λ (t : Bool). cond t (next ∷ lines_behind [] (written ++ rest)) (lines_behind next (written ++ rest))) there
-          ∙ ap (λ ls. next ∷ ls) fed.1
-          ∙ sym (ap (λ (t : Bool). cond t (next ∷ lines_behind [] written) (lines_behind next written) ++ fed.0) there))
-      | inr none ↦ (on.0,
-          ap (λ (t : Bool). cond t (next ∷ lines_behind [] (written ++ rest)) (lines_behind next (written ++ rest))) none
-          ∙ on.1
-          ∙ sym (ap (λ (t : Bool). cond t (next ∷ lines_behind [] written) (lines_behind next written) ++ on.0) none))
+      | inl there ↦ (
+        fed.0,
+        ap (λ (t : Bool). cond t (next ∷ lines_behind [] (written ++ rest)) (lines_behind next (written ++ rest))) there
+            ∙ ap (λ ls. next ∷ ls) fed.1
+            ∙ sym (ap (λ (t : Bool). cond t (next ∷ lines_behind [] written) (lines_behind next written) ++ fed.0) there),
+      )
+      | inr none ↦ (
+        on.0,
+        ap (λ (t : Bool). cond t (next ∷ lines_behind [] (written ++ rest)) (lines_behind next (written ++ rest))) none
+            ∙ on.1
+            ∙ sym (ap (λ (t : Bool). cond t (next ∷ lines_behind [] written) (lines_behind next written) ++ on.0) none),
+      )
     ]
 
 front_of_taken : (word : List ℕ) (n : ℕ) (lines rest : List (List ℕ)) → (more : List (List ℕ)) × (lines_after word n (lines ++ rest) ≡ lines_after word n lines ++ more)
@@ -113,29 +117,37 @@ front_of_taken word zero (line ∷ lines) rest =
     let all : List (List ℕ) = lines_after word zero (lines ++ rest) in
     let some : List (List ℕ) = lines_after word zero lines in
     elim (cases_Bool (is_frame_line line)) [
-      | inl there ↦ ([],
-          ap (λ (t : Bool). cond t [] (cond (begins_with word line) (line ∷ all) all)) there
-          ∙ sym (ap (λ (t : Bool). cond t [] (cond (begins_with word line) (line ∷ some) some) ++ []) there))
-      | inr none ↦ (here.0,
-          ap (λ (t : Bool). cond t [] (cond (begins_with word line) (line ∷ all) all)) none
-          ∙ elim (cases_Bool (begins_with word line)) [
-            | inl is ↦ ap (λ (t : Bool). cond t (line ∷ all) all) is ∙ ap (λ ls. line ∷ ls) here.1
-                ∙ sym (ap (λ (t : Bool). cond t (line ∷ some) some ++ here.0) is)
-            | inr not ↦ ap (λ (t : Bool). cond t (line ∷ all) all) not ∙ here.1
-                ∙ sym (ap (λ (t : Bool). cond t (line ∷ some) some ++ here.0) not)
-          ]
-          ∙ sym (ap (λ (t : Bool). cond t [] (cond (begins_with word line) (line ∷ some) some) ++ here.0) none))
+      | inl there ↦ (
+        [],
+        ap (λ (t : Bool). cond t [] (cond (begins_with word line) (line ∷ all) all)) there
+            ∙ sym (ap (λ (t : Bool). cond t [] (cond (begins_with word line) (line ∷ some) some) ++ []) there),
+      )
+      | inr none ↦ (
+        here.0,
+        ap (λ (t : Bool). cond t [] (cond (begins_with word line) (line ∷ all) all)) none
+            ∙ elim (cases_Bool (begins_with word line)) [
+              | inl is ↦ ap (λ (t : Bool). cond t (line ∷ all) all) is ∙ ap (λ ls. line ∷ ls) here.1
+                  ∙ sym (ap (λ (t : Bool). cond t (line ∷ some) some ++ here.0) is)
+              | inr not ↦ ap (λ (t : Bool). cond t (line ∷ all) all) not ∙ here.1
+                  ∙ sym (ap (λ (t : Bool). cond t (line ∷ some) some ++ here.0) not)
+            ]
+            ∙ sym (ap (λ (t : Bool). cond t [] (cond (begins_with word line) (line ∷ some) some) ++ here.0) none),
+      )
     ]
 front_of_taken word (suc n) (line ∷ lines) rest =
     let in_frame = front_of_taken word n lines rest in
     let before = front_of_taken word (suc n) lines rest in
     elim (cases_Bool (is_frame_line line)) [
-      | inl there ↦ (in_frame.0,
-          ap (λ (t : Bool). cond t (lines_after word n (lines ++ rest)) (lines_after word (suc n) (lines ++ rest))) there ∙ in_frame.1
-          ∙ sym (ap (λ (t : Bool). cond t (lines_after word n lines) (lines_after word (suc n) lines) ++ in_frame.0) there))
-      | inr none ↦ (before.0,
-          ap (λ (t : Bool). cond t (lines_after word n (lines ++ rest)) (lines_after word (suc n) (lines ++ rest))) none ∙ before.1
-          ∙ sym (ap (λ (t : Bool). cond t (lines_after word n lines) (lines_after word (suc n) lines) ++ before.0) none))
+      | inl there ↦ (
+        in_frame.0,
+        ap (λ (t : Bool). cond t (lines_after word n (lines ++ rest)) (lines_after word (suc n) (lines ++ rest))) there ∙ in_frame.1
+            ∙ sym (ap (λ (t : Bool). cond t (lines_after word n lines) (lines_after word (suc n) lines) ++ in_frame.0) there),
+      )
+      | inr none ↦ (
+        before.0,
+        ap (λ (t : Bool). cond t (lines_after word n (lines ++ rest)) (lines_after word (suc n) (lines ++ rest))) none ∙ before.1
+            ∙ sym (ap (λ (t : Bool). cond t (lines_after word n lines) (lines_after word (suc n) lines) ++ before.0) none),
+      )
     ]
 
 -- of a text that was cut short, the lines of a frame are a front of those of the whole

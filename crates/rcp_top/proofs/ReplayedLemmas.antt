@@ -1,14 +1,13 @@
--- What a replay that shows a text has read, and that it is ideal under the guard.
-use Rattle.std.proofs.Common.{◌≡◌, ℕ, zero, suc, ◌<◌, Bool, true, false, cond, List, [], ◌∷◌, ◌++◌, codes, length, Option, None, Some, slice_get, Result, Ok, Err, refl, sym, ap, ◌∙◌, subst, inl, inr}
+-- What a replay that prints a text has read, and that it is ideal under the guard.
+use Rattle.std.proofs.Common.{◌≡◌, ℕ, zero, suc, false, List, [], ◌∷◌, ◌++◌, codes, Option, None, Some, slice_get, Result, Ok, Err, refl, sym, ap, ◌∙◌, subst, inl, inr}
 use Rattle.std.proofs.lemmas.Bool.{cases_Bool, cond-true, cond-false}
 use Rattle.rcp_base.specs.Files.{Files}
 use Rattle.rcp_model.specs.declared.plan.PlanParts.{PlanParts}
-use Rattle.rcp_model.specs.AtFrame.{is_working_at, MeetsGuardAt}
 use Rattle.rcp_model.specs.History.{History}
 use Rattle.rcp_model.specs.HistoryLaws.{HistoriesGoByFrames}
 use Rattle.rcp_model.specs.Levels.{has_cycle}
 use Rattle.rcp_model.specs.PlanGraph.{graph_of_plan}
-use Rattle.rcp_model.specs.Shown.{recovery_length, witness_cycle}
+use Rattle.rcp_model.specs.Shown.{witness_cycle}
 use Rattle.rcp_model.proofs.ShownLaws.{recovery_is_right}
 use Rattle.task_file.specs.declared.fault.FileFault.{FileFault}
 use Rattle.task_file.specs.Laws.{AcceptedFilesArePlans}
@@ -19,13 +18,13 @@ use Rattle.layer_stack.specs.Recovery.{ReplicasRecover}
 use Rattle.rcp_top.specs.declared.status.Status.TheVariants as status
 use Rattle.rcp_top.specs.declared.stop.Refusal.{Refusal}
 use Rattle.rcp_top.specs.declared.stop.Refusal.TheVariants as refusal
-use Rattle.rcp_top.specs.Headline.{IsDue, AreGiven, HoldsIdeal, IsIdealAt, IsIdealSoFarAt, HoldsUnderTheGuard, ReplaysAreIdealUnderTheGuard, CutReplaysAreIdealUnderTheGuard}
-use Rattle.rcp_top.specs.Ideal.{ideal_of, ideal_text, sensors_of_history}
-use Rattle.rcp_top.specs.Outcome.{Outcome, outcome_at, outcome_of}
+use Rattle.rcp_top.specs.Headline.{Prints, PrintsIdeal, AreGiven, IsIdealAt, IsIdealSoFarAt, ReplaysAreIdealUnderTheGuard, CutReplaysAreIdealUnderTheGuard}
+use Rattle.rcp_top.specs.Ideal.{ideal_text, sensors_of_history}
+use Rattle.rcp_top.specs.Outcome.{Outcome, outcome_at}
 use Rattle.rcp_top.specs.Printed.{lines_of_frame}
 use Rattle.rcp_top.specs.Read.{plan_at, history_at, good_plan, good_history, shown}
 use Rattle.rcp_top.specs.Reading.{Reading, End, end_at, end_over, file_at, ◌>>=◌}
-use Rattle.rcp_top.specs.Replay.{replay_of, replay_text}
+use Rattle.rcp_top.specs.Replay.{recovery_of_plan, replay_of, replay_text}
 use Rattle.rcp_top.proofs.HeadlineLemmas.{IsIdealFrame, ideal_frame}
 use Rattle.rcp_top.proofs.PrintedLemmas.{cut_front}
 
@@ -92,7 +91,27 @@ history_good : (given : Result History JournalFault) (history : History) → goo
 history_good (Err fault) history is = cc is
 history_good (Ok found) history is = let e : found ≡ history = cc is in ap (λ (h : History). Ok h) e
 
--- what a replay has read, that shows this text
+-- a call that prints a text was given it
+due_is_given : (end : End (List ℕ)) (text : List ℕ) → Prints (outcome_at end) text → end ≡ End.gave (Ok text)
+due_is_given (End.gave (Ok found)) text is = let e : found ≡ text = ap (λ (due : Outcome). due.text) is in ap (λ (x : List ℕ). End.gave (Ok x)) e
+due_is_given (End.gave (Err (refusal.TaskFile fault))) text is = absurd (not_done (ap (λ (due : Outcome). due.status) is))
+  where
+    not_done : status.TaskRefused ≡ status.Done → ⊥
+    not_done is = cc is
+due_is_given (End.gave (Err (refusal.Pattern plan cycle))) text is = absurd (not_done (ap (λ (due : Outcome). due.status) is))
+  where
+    not_done : status.PatternRefused ≡ status.Done → ⊥
+    not_done is = cc is
+due_is_given (End.gave (Err (refusal.Journal fault))) text is = absurd (not_done (ap (λ (due : Outcome). due.status) is))
+  where
+    not_done : status.JournalRefused ≡ status.Done → ⊥
+    not_done is = cc is
+due_is_given (End.unread word) text is = absurd (not_done (ap (λ (due : Outcome). due.status) is))
+  where
+    not_done : status.ReadFault ≡ status.Done → ⊥
+    not_done is = cc is
+
+-- what a replay that prints this text has read
 record HasRead (files : Files) (file journal text : List ℕ) : Type 0 where
   plan : PlanParts
   history : History
@@ -100,14 +119,14 @@ record HasRead (files : Files) (file journal text : List ℕ) : Type 0 where
   good : has_cycle (graph_of_plan plan) ≡ false
   plan_end : end_over files (plan_at file) ≡ End.gave (Ok plan)
   history_end : end_over files (history_at plan journal) ≡ End.gave (Ok history)
-  shows : replay_text plan (recovery_length (graph_of_plan plan)) history ≡ text
+  text_is : replay_text plan (recovery_of_plan plan) history ≡ text
 
 has_read : (files : Files) (file journal text : List ℕ) → end_over files (replay_of file journal) ≡ End.gave (Ok text)
     → HasRead files file journal text
 has_read files file journal text is =
-    let first = gave_in_turn files (λ plan. history_at plan journal >>= λ history. shown (replay_text plan (recovery_length (graph_of_plan plan)) history)) text (plan_at file) is in
+    let first = gave_in_turn files (λ plan. history_at plan journal >>= λ history. shown (replay_text plan (recovery_of_plan plan) history)) text (plan_at file) is in
     let plan = first.found in
-    let second = gave_in_turn files (λ history. shown (replay_text plan (recovery_length (graph_of_plan plan)) history)) text (history_at plan journal) first.next_gave in
+    let second = gave_in_turn files (λ history. shown (replay_text plan (recovery_of_plan plan) history)) text (history_at plan journal) first.next_gave in
     let file_read = gave_in_turn files (λ bytes. Reading.gives (good_plan (task_file_result bytes))) plan (file_at file) first.first_gave in
     let journal_read = gave_in_turn files (λ bytes. Reading.gives (good_history (journal_result plan bytes))) second.found (file_at journal) second.first_gave in
     let good : good_plan (task_file_result file_read.found) ≡ Ok plan = cc file_read.next_gave in
@@ -127,24 +146,24 @@ has_read files file journal text is =
       good = plan_is.1;
       plan_end = first.first_gave;
       history_end = second.first_gave;
-      shows = cc second.next_gave;
+      text_is = cc second.next_gave;
     }
 
--- `ideal` then shows its text
-ideal_due : (files : Files) (file journal : List ℕ) (plan : PlanParts) (history : History)
+-- `ideal` then prints its text
+prints_ideal : (files : Files) (file journal : List ℕ) (plan : PlanParts) (history : History)
     → end_over files (plan_at file) ≡ End.gave (Ok plan) → end_over files (history_at plan journal) ≡ End.gave (Ok history)
-    → IsDue files (codes "ideal" ∷ file ∷ journal ∷ []) (ideal_text plan (sensors_of_history history))
-ideal_due files file journal plan history plan_end history_end =
+    → PrintsIdeal files file journal (ideal_text plan (sensors_of_history history))
+prints_ideal files file journal plan history plan_end history_end =
     ap outcome_at
     (go_on files (λ plan. history_at plan journal >>= λ history. shown (ideal_text plan (sensors_of_history history))) plan (plan_at file) plan_end
     ∙ go_on files (λ history. shown (ideal_text plan (sensors_of_history history))) history (history_at plan journal) history_end)
 
 pub headline : ReplicasRecover → HistoriesGoByFrames → AcceptedFilesArePlans → ReplaysAreIdealUnderTheGuard
 headline recover by_frames accepted files file journal replayed is =
-    let read = has_read files file journal replayed is in
+    let read = has_read files file journal replayed (due_is_given (end_over files (replay_of file journal)) replayed is) in
     let plan = read.plan in
     let history = read.history in
-    let recovery = recovery_length (graph_of_plan plan) in
+    let recovery = recovery_of_plan plan in
     let right = recovery_is_right (graph_of_plan plan) read.good in
     let rules = accepted read.given.file_bytes plan read.given.plan_given in
     let ideal = ideal_text plan (sensors_of_history history) in
@@ -153,12 +172,12 @@ headline recover by_frames accepted files file journal replayed is =
       history = history;
       given = read.given;
       ideal = ideal;
-      due = ideal_due files file journal plan history read.plan_end read.history_end;
+      prints = prints_ideal files file journal plan history read.plan_end read.history_end;
       frames = λ t lt guard.
           let frame = ideal_frame recover by_frames plan recovery history t rules right.least.some right.least.none lt guard in
           let P : List ℕ → Type 0 = λ text. IsIdealFrame plan recovery history text ideal t in
-          let shown_so = subst P read.shows frame in
-          record { votes = shown_so.votes; replicas = shown_so.replicas };
+          let frame_is = subst P read.text_is frame in
+          record { votes = frame_is.votes; replicas = frame_is.replicas };
     }
 
 -- what stands in a front stands in the whole
@@ -195,26 +214,6 @@ cut_headline whole files file journal written rest is =
       history = holds.history;
       given = holds.given;
       ideal = holds.ideal;
-      due = holds.due;
+      prints = holds.prints;
       frames = λ t lt guard. so_far written rest holds.plan holds.history holds.ideal t (holds.frames t lt guard);
     }
-
--- a call that shows a text has given it
-pub due_is_given : (end : End (List ℕ)) (text : List ℕ) → outcome_at end ≡ record { status = status.Done; text = text } → end ≡ End.gave (Ok text)
-due_is_given (End.gave (Ok found)) text is = let e : found ≡ text = ap (λ (due : Outcome). due.text) is in ap (λ (x : List ℕ). End.gave (Ok x)) e
-due_is_given (End.gave (Err (refusal.TaskFile fault))) text is = absurd (not_done (ap (λ (due : Outcome). due.status) is))
-  where
-    not_done : status.TaskRefused ≡ status.Done → ⊥
-    not_done is = cc is
-due_is_given (End.gave (Err (refusal.Pattern plan cycle))) text is = absurd (not_done (ap (λ (due : Outcome). due.status) is))
-  where
-    not_done : status.PatternRefused ≡ status.Done → ⊥
-    not_done is = cc is
-due_is_given (End.gave (Err (refusal.Journal fault))) text is = absurd (not_done (ap (λ (due : Outcome). due.status) is))
-  where
-    not_done : status.JournalRefused ≡ status.Done → ⊥
-    not_done is = cc is
-due_is_given (End.unread word) text is = absurd (not_done (ap (λ (due : Outcome). due.status) is))
-  where
-    not_done : status.ReadFault ≡ status.Done → ⊥
-    not_done is = cc is

@@ -22,14 +22,16 @@ begins_with (b ∷ word) (byte ∷ line) = (b == byte) && begins_with word line
 abbrev pub is_frame_line : List ℕ → Bool
 is_frame_line line = begins_with (codes "frame ") line
 
--- the lines that begin with a word, behind so many more lines that begin a frame and before the next
+-- the lines that begin with a word, behind so many lines that begin a frame and before the next
 abbrev pub lines_after : List ℕ → ℕ → List (List ℕ) → List (List ℕ)
 lines_after word frames [] = []
 lines_after word zero (line ∷ lines) =
     if is_frame_line line then []
-    else if begins_with word line then line ∷ lines_after word zero lines else lines_after word zero lines
+    else if begins_with word line then line ∷ lines_after word zero lines
+    else lines_after word zero lines
 lines_after word (suc frames) (line ∷ lines) =
-    if is_frame_line line then lines_after word frames lines else lines_after word (suc frames) lines
+    if is_frame_line line then lines_after word frames lines
+    else lines_after word (suc frames) lines
 
 -- the lines of frame t of a text that begin with a word
 abbrev pub lines_of_frame : List ℕ → ℕ → List ℕ → List (List ℕ)

@@ -19,14 +19,15 @@ use Rattle.rcp_top.specs.Reading.{Reading, ◌>>=◌}
 abbrev pub meets_guard : PlanParts → ℕ → List FrameRows → Bool
 meets_guard plan recovery [] = true
 meets_guard plan recovery (rows ∷ past) =
-    nat_lt plan.replicas (2 * healthy_count plan (suc recovery) (rows ∷ past)) && meets_guard plan recovery past
+    nat_lt plan.replicas (2 * healthy_count plan (suc recovery) (rows ∷ past))
+    && meets_guard plan recovery past
 
 -- the line of an actuator, with what was voted for it in the last of these frames
 abbrev pub voted_line : PlanParts → List FrameRows → ℕ → List ℕ
 voted_line plan past actuator =
     vote_line (actuator_at plan actuator).name (actuator_vote plan (state_after plan past) actuator)
 
--- the line of a replica, with what it holds after the frame of these rows, which follows the frames past
+-- the line of a replica, with what it holds after the frame of these rows, behind the frames past
 abbrev pub held_line : PlanParts → ℕ → FrameRows → List FrameRows → ℕ → List ℕ
 held_line plan recovery rows past replica =
     let held = (state_after plan (rows ∷ past)).replicas replica in
@@ -42,17 +43,18 @@ abbrev pub held_lines : PlanParts → ℕ → FrameRows → List FrameRows → L
 held_lines plan recovery rows past =
     flat_map (held_line plan recovery rows past) (range_with_len 0 plan.replicas)
 
--- the lines of the frame of these rows, which follows the frames past
+-- the lines of the frame of these rows, behind the frames past
 unfoldable pub replay_frame_text : PlanParts → ℕ → FrameRows → List FrameRows → List ℕ
 replay_frame_text plan recovery rows past =
     frame_guard_line (length past) (meets_guard plan recovery (rows ∷ past))
     ++ (voted_lines plan (rows ∷ past) ++ held_lines plan recovery rows past)
 
--- the lines of these frames, oldest first, which follow the frames past
+-- the lines of these frames, oldest first, behind the frames past
 unfoldable pub replay_frames_text : PlanParts → ℕ → List FrameRows → History → List ℕ
 replay_frames_text plan recovery past [] = []
 replay_frames_text plan recovery past (rows ∷ frames) =
-    replay_frame_text plan recovery rows past ++ replay_frames_text plan recovery (rows ∷ past) frames
+    replay_frame_text plan recovery rows past
+    ++ replay_frames_text plan recovery (rows ∷ past) frames
 
 -- the text of the replicated system over a history, with this recovery length
 unfoldable pub replay_text : PlanParts → ℕ → History → List ℕ
@@ -60,9 +62,13 @@ replay_text plan recovery history =
     count_line label.Recovery recovery
     ++ (replay_frames_text plan recovery [] history ++ count_line label.End (length history))
 
+-- how soon the vote pattern of a plan recovers
+abbrev pub recovery_of_plan : PlanParts → ℕ
+recovery_of_plan plan = recovery_length (graph_of_plan plan)
+
 -- what `replay FILE JOURNAL` reads, and the text that is then due
 abbrev pub replay_of : List ℕ → List ℕ → Reading (List ℕ)
 replay_of file journal = do
   plan ← plan_at file
   history ← history_at plan journal
-  shown (replay_text plan (recovery_length (graph_of_plan plan)) history)
+  shown (replay_text plan (recovery_of_plan plan) history)

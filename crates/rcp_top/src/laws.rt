@@ -32,8 +32,8 @@ pub fn guards_are_tested()
     ensures { GuardsAreTested }
 {}
 
-/// Under the guard `replay` prints the votes that `ideal` prints, and for each working replica the slot and the cells of the
-/// single processor, byte for byte.
+/// Under the guard `replay` prints the votes that `ideal` prints, and for each working replica what
+/// the single processor holds, byte for byte.
 pub fn replays_are_ideal_under_the_guard()
     ensures { ReplaysAreIdealUnderTheGuard }
 {
