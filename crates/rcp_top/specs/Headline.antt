@@ -79,7 +79,7 @@ pub record IsIdealSoFarAt (written : List ℕ)
       → slice_get (replica_lines_at t written) replica ≡ Some line
       → HoldsIdeal written ideal t replica
 
--- the files give a plan and a history, `ideal` prints a text, and under the guard this holds of a frame
+-- the two files give a run, `ideal` prints it, and this holds of each frame under the guard
 pub record HoldsUnderTheGuard (files : Files) (file journal : List ℕ)
     (holds : PlanParts → History → List ℕ → ℕ → Type 0) : Type 0 where
   pub plan : PlanParts
