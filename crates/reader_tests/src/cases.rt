@@ -1,4 +1,4 @@
-//! Cases as lines of text, each of which ends in ` => ` and the answer that is due. Small functions, since each is proved alone.
+//! Cases as lines of text, each of which ends in ` => ` and the answer that is due.
 //! This project's own.
 use std::alloc::Global;
 use std::process::Abort;
