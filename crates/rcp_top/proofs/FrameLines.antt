@@ -1,23 +1,24 @@
 -- The texts of `ideal` and `replay` as their lines, and which of them are those of a frame.
-use Rattle.std.proofs.Common.{◌≡◌, ℕ, zero, suc, Bool, true, false, cond, List, [], ◌∷◌, ◌++◌, length, map, flat_map, codes, get_or, reverse, Some, refl, sym, ap, ◌∙◌, append_assoc, append-nil}
-use Rattle.std.specs.Prelude.{⊤, ◌&&◌}
+use Rattle.std.proofs.Common.{◌≡◌, ℕ, zero, suc, ◌+◌, ◌<◌, Bool, true, false, cond, List, [], ◌∷◌, ◌++◌, length, map, flat_map, codes, get_or, slice_get, take, drop, reverse, Some, refl, sym, ap, ◌∙◌, append_assoc, append-nil, arith}
+use Rattle.std.specs.Prelude.{⊤, ◌&&◌, pos}
 use Rattle.std.specs.List.{range_with_len, list_all}
-use Rattle.std.proofs.lemmas.List.{reverse-append}
+use Rattle.std.proofs.lemmas.List.{reverse-append, length-take-le, drop_more, take-append-drop}
 use Rattle.rcp_base.specs.Name.{is_name}
 use Rattle.rcp_model.specs.declared.plan.ActuatorRow.{ActuatorRow}
 use Rattle.rcp_model.specs.declared.plan.PlanParts.{PlanParts}
-use Rattle.rcp_model.specs.FrameRows.{FrameRows}
-use Rattle.rcp_model.specs.History.{History, sensors_of}
+use Rattle.rcp_model.specs.FrameRows.{FrameRows, quiet_rows}
+use Rattle.rcp_model.specs.History.{History, past_of, sensors_of}
+use Rattle.rcp_model.specs.AtFrame.{rows_at}
 use Rattle.rcp_model.specs.Plan.{actuator_names}
 use Rattle.rcp_model.specs.Slot.{no_actuator}
 use Rattle.rcp_model.specs.Uniprocessor.{ideal_slot, ideal_cells, ideal_command}
 use Rattle.trace_text.specs.declared.label.Label.TheVariants as label
 use Rattle.trace_text.specs.Lines.{count_line, frame_line, frame_guard_line, vote_line, ideal_line}
 use Rattle.rcp_top.specs.Ideal.{frame_text, frames_text, ideal_text, sensors_of_history}
-use Rattle.rcp_top.specs.Printed.{begins_with, is_frame_line, lines_after, lines_of_frame}
+use Rattle.rcp_top.specs.Printed.{frame_lines, lines_with, lines_in, begins_with, is_frame_line, lines_after, lines_of_frame}
 use Rattle.rcp_top.specs.Replay.{meets_guard, voted_line, held_line, voted_lines, held_lines, replay_frame_text, replay_frames_text, replay_text}
 use Rattle.rcp_top.proofs.LineShapes.{free_name, frame_is_line, frame_guard_is_line, vote_is_line, ideal_is_line, replica_is_line, recovery_is_line, end_is_line, frame_begins, frame_guard_begins, vote_is_no_frame, replica_is_no_frame, ideal_is_no_frame}
-use Rattle.rcp_top.proofs.PrintedLemmas.{HasNoFeed, IsLine, AreLines, HasNoFrame, joined, joined_more, lines_with, lines_joined, joined_lines, no_frame_joined, passed_over, taken_here}
+use Rattle.rcp_top.proofs.PrintedLemmas.{HasNoFeed, IsLine, AreLines, HasNoFrame, joined, joined_more, lines_joined, joined_lines, no_frame_joined, passed_over, taken_here}
 
 -- these frames and those past, the newest first
 abbrev pub newest_first : List FrameRows → History → List FrameRows
@@ -31,7 +32,7 @@ newest_is_reverse past (rows ∷ frames) =
     ∙ sym (append_assoc (reverse frames) (rows ∷ []) past)
     ∙ ap (λ xs. xs ++ past) (sym (reverse-append (rows ∷ []) frames))
 
-pub newest_of : (frames : History) → newest_first [] frames ≡ reverse frames
+newest_of : (frames : History) → newest_first [] frames ≡ reverse frames
 newest_of frames = newest_is_reverse [] frames ∙ append-nil (reverse frames)
 
 -- the lines of frames, each by its rows and the frames past: the first, and those behind it
@@ -84,6 +85,30 @@ module _ (first : FrameRows → List FrameRows → List ℕ) (rest : FrameRows �
         ∙ ap (lines_after word n) (append_assoc (rest e past) behind tail)
         ∙ passed_over word (length earlier) (rest e past) (behind ++ tail) (are.begun e past)
         ∙ at_frame (e ∷ past) earlier rows later
+
+-- no line of a frame but the first begins one
+no_heads : (lines more : List (List ℕ)) → HasNoFrame lines → lines_with (codes "frame ") (lines ++ more) ≡ lines_with (codes "frame ") more
+no_heads [] more none = refl
+no_heads (line ∷ lines) more none =
+    let all = lines_with (codes "frame ") (lines ++ more) in
+    ap (λ (t : Bool). cond t (line ∷ all) all) none.0 ∙ no_heads lines more none.1
+
+module _ (first : FrameRows → List FrameRows → List ℕ) (rest : FrameRows → List FrameRows → List (List ℕ)) (are : AreFrameLines first rest) (tail : List (List ℕ)) where
+  -- the line that begins a frame is that of its rows and of the frames before it
+  head_at : (past : List FrameRows) (earlier : History) (rows : FrameRows) (later : History)
+      → slice_get (lines_with (codes "frame ") (frames_lines first rest past (earlier ++ rows ∷ later) ++ tail)) (length earlier)
+      ≡ Some (first rows (newest_first past earlier))
+  head_at past [] rows later =
+      let all = lines_with (codes "frame ") ((rest rows past ++ frames_lines first rest (rows ∷ past) later) ++ tail) in
+      ap (λ (t : Bool). slice_get (cond t (first rows past ∷ all) all) 0) (are.begin rows past)
+  head_at past (e ∷ earlier) rows later =
+      let behind = frames_lines first rest (e ∷ past) (earlier ++ rows ∷ later) in
+      let all = lines_with (codes "frame ") ((rest e past ++ behind) ++ tail) in
+      let n : ℕ = length earlier in
+      ap (λ (t : Bool). slice_get (cond t (first e past ∷ all) all) (suc n)) (are.begin e past)
+      ∙ ap (λ ls. slice_get (lines_with (codes "frame ") ls) n) (append_assoc (rest e past) behind tail)
+      ∙ ap (λ ls. slice_get ls n) (no_heads (rest e past) (behind ++ tail) (are.begun e past))
+      ∙ head_at (e ∷ past) earlier rows later
 
 -- lines that a function gives
 pub flat_is_joined : {X : Type 0} (line : X → List ℕ) (xs : List X) → flat_map line xs ≡ joined (map line xs)
@@ -168,7 +193,7 @@ ideal_text_lines plan past (rows ∷ frames) =
     ∙ ap (λ ls. first ++ ls) (sym (joined_more (ideal_rest plan rows past) more))
 
 -- the lines of a frame of `replay`
-abbrev replay_first : PlanParts → ℕ → FrameRows → List FrameRows → List ℕ
+abbrev pub replay_first : PlanParts → ℕ → FrameRows → List FrameRows → List ℕ
 replay_first plan recovery rows past = frame_guard_line (length past) (meets_guard plan recovery (rows ∷ past))
 
 abbrev pub actuator_numbers : PlanParts → List ℕ
@@ -232,41 +257,80 @@ ideals_are_of_frames = record { recovery = λ n. refl; end = λ n. refl }
 one_behind : (lines : List (List ℕ)) (line : List ℕ) → joined lines ++ line ≡ joined (lines ++ line ∷ [])
 one_behind lines line = ap (λ l. joined lines ++ l) (sym (append-nil line)) ∙ sym (joined_more lines (line ∷ []))
 
-module _ (word : List ℕ) (of_frames : IsOfFrames word) (plan : PlanParts) (named : AreNamed plan.actuators) where
-  pub ideal_split : (earlier : History) (rows : FrameRows) (later : History)
-      → lines_of_frame word (length earlier) (ideal_text plan (sensors_of_history (earlier ++ rows ∷ later)))
-      ≡ lines_with word (ideal_rest plan rows (newest_first [] earlier))
+module _ (plan : PlanParts) (named : AreNamed plan.actuators) where
+  ideal_lines_in : (history : History)
+      → lines_in (ideal_text plan (sensors_of_history history))
+      ≡ frames_lines ideal_first (ideal_rest plan) [] history ++ count_line label.End (length (sensors_of_history history)) ∷ []
   unfolding ideal_text
-  ideal_split earlier rows later =
-      let history : History = earlier ++ rows ∷ later in
-      let are = ideal_frames plan named in
+  ideal_lines_in history =
       let end = count_line label.End (length (sensors_of_history history)) in
       let lines = frames_lines ideal_first (ideal_rest plan) [] history in
-      ap (λ text. lines_of_frame word (length earlier) (text ++ end)) (ideal_text_lines plan [] history)
-      ∙ ap (lines_of_frame word (length earlier)) (one_behind lines end)
-      ∙ ap (lines_after word (suc (length earlier)))
-      (joined_lines (lines ++ end ∷ []) (lines_joined lines (end ∷ []) (all_are_lines ideal_first (ideal_rest plan) are [] history) (end_is_line _, tt)))
-      ∙ at_frame ideal_first (ideal_rest plan) are word (end ∷ []) (of_frames.end _) [] earlier rows later
+      ap (λ text. lines_in (text ++ end)) (ideal_text_lines plan [] history)
+      ∙ ap lines_in (one_behind lines end)
+      ∙ joined_lines (lines ++ end ∷ [])
+      (lines_joined lines (end ∷ []) (all_are_lines ideal_first (ideal_rest plan) (ideal_frames plan named) [] history) (end_is_line _, tt))
 
-  pub replay_split : (recovery : ℕ) (earlier : History) (rows : FrameRows) (later : History)
-      → lines_of_frame word (length earlier) (replay_text plan recovery (earlier ++ rows ∷ later))
-      ≡ lines_with word (replay_rest plan recovery rows (newest_first [] earlier))
+  replay_lines_in : (recovery : ℕ) (history : History)
+      → lines_in (replay_text plan recovery history)
+      ≡ count_line label.Recovery recovery
+      ∷ (frames_lines (replay_first plan recovery) (replay_rest plan recovery) [] history ++ count_line label.End (length history) ∷ [])
   unfolding replay_text
-  replay_split recovery earlier rows later =
-      let history : History = earlier ++ rows ∷ later in
-      let first = replay_first plan recovery in
-      let rest = replay_rest plan recovery in
-      let are = replay_frames plan recovery named in
+  replay_lines_in recovery history =
       let head = count_line label.Recovery recovery in
       let end = count_line label.End (length history) in
-      let lines = frames_lines first rest [] history in
-      let n : ℕ = suc (length earlier) in
-      ap (λ text. lines_of_frame word (length earlier) (head ++ (text ++ end))) (replay_text_lines plan recovery [] history)
-      ∙ ap (λ text. lines_of_frame word (length earlier) (head ++ text)) (one_behind lines end)
-      ∙ ap (lines_after word n)
-      (joined_lines (head ∷ (lines ++ end ∷ [])) (
-        recovery_is_line recovery,
-        lines_joined lines (end ∷ []) (all_are_lines first rest are [] history) (end_is_line _, tt),
-      ))
-      ∙ ap (λ (t : Bool). cond t (lines_after word (length earlier) (lines ++ end ∷ [])) (lines_after word n (lines ++ end ∷ []))) (of_frames.recovery recovery)
-      ∙ at_frame first rest are word (end ∷ []) (of_frames.end _) [] earlier rows later
+      let lines = frames_lines (replay_first plan recovery) (replay_rest plan recovery) [] history in
+      let are = all_are_lines (replay_first plan recovery) (replay_rest plan recovery) (replay_frames plan recovery named) [] history in
+      ap (λ text. lines_in (head ++ (text ++ end))) (replay_text_lines plan recovery [] history)
+      ∙ ap (λ text. lines_in (head ++ text)) (one_behind lines end)
+      ∙ joined_lines (head ∷ (lines ++ end ∷ [])) (recovery_is_line recovery, lines_joined lines (end ∷ []) are (end_is_line _, tt))
+
+  module _ (word : List ℕ) (of_frames : IsOfFrames word) where
+    pub ideal_split : (earlier : History) (rows : FrameRows) (later : History)
+        → lines_of_frame word (length earlier) (ideal_text plan (sensors_of_history (earlier ++ rows ∷ later)))
+        ≡ lines_with word (ideal_rest plan rows (newest_first [] earlier))
+    ideal_split earlier rows later =
+        ap (lines_after word (suc (length earlier))) (ideal_lines_in (earlier ++ rows ∷ later))
+        ∙ at_frame ideal_first (ideal_rest plan) (ideal_frames plan named) word _ (of_frames.end _) [] earlier rows later
+
+    pub replay_split : (recovery : ℕ) (earlier : History) (rows : FrameRows) (later : History)
+        → lines_of_frame word (length earlier) (replay_text plan recovery (earlier ++ rows ∷ later))
+        ≡ lines_with word (replay_rest plan recovery rows (newest_first [] earlier))
+    replay_split recovery earlier rows later =
+        let history : History = earlier ++ rows ∷ later in
+        let lines : List (List ℕ) =
+        frames_lines (replay_first plan recovery) (replay_rest plan recovery) [] history ++ count_line label.End (length history) ∷ [] in
+        let n : ℕ = suc (length earlier) in
+        ap (lines_after word n) (replay_lines_in recovery history)
+        ∙ ap (λ (t : Bool). cond t (lines_after word (length earlier) lines) (lines_after word n lines)) (of_frames.recovery recovery)
+        ∙ at_frame (replay_first plan recovery) (replay_rest plan recovery) (replay_frames plan recovery named) word _ (of_frames.end _) [] earlier rows later
+
+  pub head_split : (recovery : ℕ) (earlier : History) (rows : FrameRows) (later : History)
+      → slice_get (frame_lines (replay_text plan recovery (earlier ++ rows ∷ later))) (length earlier)
+      ≡ Some (replay_first plan recovery rows (newest_first [] earlier))
+  head_split recovery earlier rows later =
+      let history : History = earlier ++ rows ∷ later in
+      let lines : List (List ℕ) =
+      frames_lines (replay_first plan recovery) (replay_rest plan recovery) [] history ++ count_line label.End (length history) ∷ [] in
+      let all = lines_with (codes "frame ") lines in
+      let n : ℕ = length earlier in
+      ap (λ ls. slice_get (lines_with (codes "frame ") ls) n) (replay_lines_in recovery history)
+      ∙ ap (λ (t : Bool). slice_get (cond t (count_line label.Recovery recovery ∷ all) all) n) (votes_are_of_frames.recovery recovery)
+      ∙ head_at (replay_first plan recovery) (replay_rest plan recovery) (replay_frames plan recovery named) _ [] earlier rows later
+
+-- a history from frame t on
+split : (history : History) (t : ℕ) → t < length history → history ≡ take t history ++ rows_at history t ∷ drop (t + 1) history
+split history t lt =
+    sym (take-append-drop t history) ∙ ap (λ later. take t history ++ later) (drop_more history t (quiet_rows 0 0 0 (pos 0) []) lt)
+
+-- what is so of the texts of histories at each split of frames is so at frame t
+pub at_t : {Y : Type 0} (look : ℕ → List ℕ → Y) (texts : History → List ℕ) (of : FrameRows → List FrameRows → Y)
+    → ((earlier : History) (rows : FrameRows) (later : History)
+    → look (length earlier) (texts (earlier ++ rows ∷ later)) ≡ of rows (newest_first [] earlier))
+    → (history : History) (t : ℕ) → t < length history → look t (texts history) ≡ of (rows_at history t) (past_of history t)
+at_t look texts of each history t lt =
+    let rows = rows_at history t in
+    let many : length (take t history) ≡ t = length-take-le t history (omega arith) in
+    ap (λ h. look t (texts h)) (split history t lt)
+    ∙ ap (λ n. look n (texts (take t history ++ rows ∷ drop (t + 1) history))) (sym many)
+    ∙ each (take t history) rows (drop (t + 1) history)
+    ∙ ap (of rows) (newest_of (take t history))

@@ -1,14 +1,13 @@
 -- Under the guard `replay` prints what `ideal` prints.
-use Rattle.std.proofs.Common.{◌≡◌, ℕ, zero, suc, ◌+◌, ◌<◌, Bool, true, false, not, cond, List, [], ◌∷◌, ◌++◌, length, map, codes, get_or, slice_get, take, drop, Some, refl, sym, ap, ◌∙◌, subst, append-nil, inl, inr, arith}
-use Rattle.std.specs.Prelude.{◌&&◌, option_map, pos}
+use Rattle.std.proofs.Common.{◌≡◌, ℕ, zero, suc, ◌+◌, ◌<◌, Bool, true, false, not, cond, List, [], ◌∷◌, ◌++◌, length, map, codes, get_or, slice_get, Some, refl, sym, ap, ◌∙◌, subst, append-nil, inl, inr, arith}
+use Rattle.std.specs.Prelude.{◌&&◌, option_map}
 use Rattle.std.specs.Fmt.{decimal}
 use Rattle.std.specs.List.{range_with_len}
 use Rattle.std.proofs.lemmas.Bool.{cases_Bool}
-use Rattle.std.proofs.lemmas.List.{length-take-le, drop_more, take-append-drop}
 use Rattle.std.proofs.lemmas.Option.{slice_get-map}
 use Rattle.rcp_model.specs.declared.plan.PlanParts.{PlanParts}
 use Rattle.rcp_model.specs.AtFrame.{rows_at, is_working_at, MeetsGuardAt}
-use Rattle.rcp_model.specs.FrameRows.{FrameRows, is_down, quiet_rows}
+use Rattle.rcp_model.specs.FrameRows.{FrameRows, is_down}
 use Rattle.rcp_model.specs.Health.{is_healthy, is_untouched, is_working, MeetsGuard}
 use Rattle.rcp_model.specs.History.{History, past_of, sensors_of}
 use Rattle.rcp_model.specs.HistoryLaws.{HistoriesGoByFrames}
@@ -23,11 +22,10 @@ use Rattle.layer_stack.specs.Recovery.{MatchesIdeal, ReplicasRecover}
 use Rattle.trace_text.specs.Lines.{replica_line, state_text, vote_line}
 use Rattle.rcp_top.specs.Headline.{HoldsIdeal}
 use Rattle.rcp_top.specs.Ideal.{ideal_text, sensors_of_history}
-use Rattle.rcp_top.specs.Printed.{begins_with, lines_of_frame}
+use Rattle.rcp_top.specs.Printed.{lines_with, begins_with, lines_of_frame}
 use Rattle.rcp_top.specs.Replay.{voted_line, held_line, replay_text}
-use Rattle.rcp_top.proofs.FrameLines.{newest_first, newest_of, ideal_vote, ideal_held, ideal_rest, actuator_numbers, replay_rest, ideal_split, replay_split, are_named, votes_are_of_frames, replicas_are_of_frames, ideals_are_of_frames}
+use Rattle.rcp_top.proofs.FrameLines.{at_t, ideal_vote, ideal_held, ideal_rest, actuator_numbers, replay_rest, ideal_split, replay_split, are_named, votes_are_of_frames, replicas_are_of_frames, ideals_are_of_frames}
 use Rattle.rcp_top.proofs.LineShapes.{vote_begins, vote_is_no_replica, vote_is_no_ideal, replica_begins, replica_is_no_vote, ideal_begins, ideal_is_no_vote, working_line, ideal_state as ideal_bytes}
-use Rattle.rcp_top.proofs.PrintedLemmas.{lines_with}
 
 -- those of two lists of lines
 with_joined : (word : List ℕ) (a b : List (List ℕ)) → lines_with word (a ++ b) ≡ lines_with word a ++ lines_with word b
@@ -108,20 +106,26 @@ up_if_working : (plan : PlanParts) (recovery : ℕ) (rows : FrameRows) (past : L
 up_if_working plan zero rows past replica some is = absurd (omega arith)
 up_if_working plan (suc n) rows past replica some is = up_if_untouched plan rows replica (untouched plan rows replica (both_true _ _ is).0)
 
--- the `vote` lines of a frame in which the votes are the single processor's
+-- the `vote` lines of a frame
+pub vote_lines_are : (plan : PlanParts) (recovery : ℕ) (rows : FrameRows) (past : List FrameRows)
+    → lines_with (codes "vote ") (replay_rest plan recovery rows past) ≡ map (voted_line plan (rows ∷ past)) (actuator_numbers plan)
+vote_lines_are plan recovery rows past =
+    let word = codes "vote " in
+    let votes = map (voted_line plan (rows ∷ past)) (actuator_numbers plan) in
+    let replicas = range_with_len 0 plan.replicas in
+    with_joined word votes (map (held_line plan recovery rows past) replicas)
+    ∙ ap (λ ls. lines_with word votes ++ ls) (mapped_none word (held_line plan recovery rows past) replicas (λ p. replica_is_no_vote p _ _ _ _))
+    ∙ append-nil (lines_with word votes)
+    ∙ mapped_all word (voted_line plan (rows ∷ past)) (actuator_numbers plan) (λ a. vote_begins _ _)
+
+-- they are those of `ideal` where the votes are the single processor's
 votes_alike : (plan : PlanParts) (recovery : ℕ) (rows : FrameRows) (past : List FrameRows)
     → MatchesIdeal plan recovery (state_after plan (rows ∷ past)) (rows ∷ past)
     → lines_with (codes "vote ") (replay_rest plan recovery rows past) ≡ lines_with (codes "vote ") (ideal_rest plan rows past)
 votes_alike plan recovery rows past matches =
     let word = codes "vote " in
-    let numbers = actuator_numbers plan in
-    let votes = map (voted_line plan (rows ∷ past)) numbers in
     let ideal = map (ideal_vote plan rows past) plan.actuators in
-    let replicas = range_with_len 0 plan.replicas in
-    with_joined word votes (map (held_line plan recovery rows past) replicas)
-    ∙ ap (λ ls. lines_with word votes ++ ls) (mapped_none word (held_line plan recovery rows past) replicas (λ p. replica_is_no_vote p _ _ _ _))
-    ∙ append-nil (lines_with word votes)
-    ∙ mapped_all word (voted_line plan (rows ∷ past)) numbers (λ a. vote_begins _ _)
+    vote_lines_are plan recovery rows past
     ∙ by_number (voted_line plan (rows ∷ past)) (ideal_vote plan rows past) no_actuator 0 plan.actuators vote_is
     ∙ sym (mapped_all word (ideal_vote plan rows past) plan.actuators (λ a. vote_begins _ _))
     ∙ sym (append-nil (lines_with word ideal))
@@ -136,9 +140,9 @@ votes_alike plan recovery rows past matches =
         ∙ ap (λ v. vote_line (get_or plan.actuators k no_actuator).name v) (matches.votes k lt)
 
 -- the `replica` lines of a frame, and its `ideal` line
-replica_lines : (plan : PlanParts) (recovery : ℕ) (rows : FrameRows) (past : List FrameRows)
+pub replica_lines_are : (plan : PlanParts) (recovery : ℕ) (rows : FrameRows) (past : List FrameRows)
     → lines_with (codes "replica ") (replay_rest plan recovery rows past) ≡ map (held_line plan recovery rows past) (range_with_len 0 plan.replicas)
-replica_lines plan recovery rows past =
+replica_lines_are plan recovery rows past =
     let word = codes "replica " in
     let votes = map (voted_line plan (rows ∷ past)) (actuator_numbers plan) in
     let held = map (held_line plan recovery rows past) (range_with_len 0 plan.replicas) in
@@ -169,26 +173,6 @@ working_is plan recovery rows past replica state some holds works =
     ∙ ap (line false state) works
     ∙ working_line replica state.slot state.cells
 
--- a history from the frame t on
-split : (history : History) (t : ℕ) → t < length history → history ≡ take t history ++ rows_at history t ∷ drop (t + 1) history
-split history t lt =
-    sym (take-append-drop t history) ∙ ap (λ later. take t history ++ later) (drop_more history t (quiet_rows 0 0 0 (pos 0) []) lt)
-
-module _ (word : List ℕ) (plan : PlanParts) where
-  -- the lines of frame t of each text
-  at_t : (texts : History → List ℕ) (of : FrameRows → List FrameRows → List (List ℕ))
-      → ((earlier : History) (rows : FrameRows) (later : History)
-      → lines_of_frame word (length earlier) (texts (earlier ++ rows ∷ later)) ≡ lines_with word (of rows (newest_first [] earlier)))
-      → (history : History) (t : ℕ) → t < length history
-      → lines_of_frame word t (texts history) ≡ lines_with word (of (rows_at history t) (past_of history t))
-  at_t texts of each history t lt =
-      let rows = rows_at history t in
-      let many : length (take t history) ≡ t = length-take-le t history (omega arith) in
-      ap (λ h. lines_of_frame word t (texts h)) (split history t lt)
-      ∙ ap (λ n. lines_of_frame word n (texts (take t history ++ rows ∷ drop (t + 1) history))) (sym many)
-      ∙ each (take t history) rows (drop (t + 1) history)
-      ∙ ap (λ past. lines_with word (of rows past)) (newest_of (take t history))
-
 -- frame t of the texts of a plan and a history is ideal
 pub record IsIdealFrame (plan : PlanParts) (recovery : ℕ) (history : History) (replayed ideal : List ℕ) (t : ℕ) : Type 0 where
   pub votes : lines_of_frame (codes "vote ") t replayed ≡ lines_of_frame (codes "vote ") t ideal
@@ -209,26 +193,26 @@ module _ (recover : ReplicasRecover) (by_frames : HistoriesGoByFrames) where
       let state = ideal_state plan (sensors_of (rows ∷ past)) in
       record {
         votes =
-            at_t (codes "vote ") plan (replay_text plan recovery) (replay_rest plan recovery)
-            (replay_split (codes "vote ") votes_are_of_frames plan named recovery) history t lt
+            at_t (lines_of_frame (codes "vote ")) (replay_text plan recovery) (λ rows past. lines_with (codes "vote ") (replay_rest plan recovery rows past))
+            (replay_split plan named (codes "vote ") votes_are_of_frames recovery) history t lt
             ∙ votes_alike plan recovery rows past matches
-            ∙ sym (at_t (codes "vote ") plan (λ h. ideal_text plan (sensors_of_history h)) (ideal_rest plan)
-            (ideal_split (codes "vote ") votes_are_of_frames plan named) history t lt);
+            ∙ sym (at_t (lines_of_frame (codes "vote ")) (λ h. ideal_text plan (sensors_of_history h)) (λ rows past. lines_with (codes "vote ") (ideal_rest plan rows past))
+            (ideal_split plan named (codes "vote ") votes_are_of_frames) history t lt);
         replicas = λ replica below works.
             let works_there : is_working plan recovery (rows ∷ past) replica ≡ true =
             ap (λ frames. is_working plan recovery frames replica) (sym (past_more history t lt)) ∙ judges.working t replica lt ∙ works in
             record {
               state = state_text state.slot state.cells;
               single =
-                  at_t (codes "ideal ") plan (λ h. ideal_text plan (sensors_of_history h)) (ideal_rest plan)
-                  (ideal_split (codes "ideal ") ideals_are_of_frames plan named) history t lt
+                  at_t (lines_of_frame (codes "ideal ")) (λ h. ideal_text plan (sensors_of_history h)) (λ rows past. lines_with (codes "ideal ") (ideal_rest plan rows past))
+                  (ideal_split plan named (codes "ideal ") ideals_are_of_frames) history t lt
                   ∙ ideal_alone plan rows past
                   ∙ ap (λ line. line ∷ []) (ideal_bytes state.slot state.cells);
               held =
                   ap (λ lines. slice_get lines replica)
-                  (at_t (codes "replica ") plan (replay_text plan recovery) (replay_rest plan recovery)
-                  (replay_split (codes "replica ") replicas_are_of_frames plan named recovery) history t lt
-                  ∙ replica_lines plan recovery rows past)
+                  (at_t (lines_of_frame (codes "replica ")) (replay_text plan recovery) (λ rows past. lines_with (codes "replica ") (replay_rest plan recovery rows past))
+                  (replay_split plan named (codes "replica ") replicas_are_of_frames recovery) history t lt
+                  ∙ replica_lines_are plan recovery rows past)
                   ∙ numbered (held_line plan recovery rows past) plan.replicas replica below
                   ∙ ap (λ (line : List ℕ). Some line)
                   (working_is plan recovery rows past replica state some (matches.replicas replica below works_there) works_there);

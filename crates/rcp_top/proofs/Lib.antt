@@ -15,3 +15,4 @@ mod LineShapes
 mod FrameLines
 mod HeadlineLemmas
 mod ReplayedLemmas
+mod EachFrameLemmas

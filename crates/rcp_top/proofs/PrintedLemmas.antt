@@ -1,8 +1,8 @@
 -- Whole lines of joined lines, and the lines of a frame.
-use Rattle.std.proofs.Common.{◌≡◌, ℕ, zero, suc, ◌==◌, Bool, false, cond, if◌then◌else◌, List, [], ◌∷◌, ◌++◌, refl, sym, ap, ◌∙◌, append_assoc, inl, inr}
+use Rattle.std.proofs.Common.{◌≡◌, ℕ, zero, suc, ◌==◌, Bool, false, cond, List, [], ◌∷◌, ◌++◌, refl, sym, ap, ◌∙◌, append_assoc, inl, inr}
 use Rattle.std.specs.Prelude.{⊤}
 use Rattle.std.proofs.lemmas.Bool.{cases_Bool}
-use Rattle.rcp_top.specs.Printed.{lines_behind, lines_in, begins_with, is_frame_line, lines_after, lines_of_frame}
+use Rattle.rcp_top.specs.Printed.{lines_with, lines_behind, lines_in, begins_with, is_frame_line, lines_after, lines_of_frame}
 
 -- no line feed stands among these bytes
 abbrev pub HasNoFeed : List ℕ → Type 0
@@ -17,11 +17,6 @@ joined (line ∷ lines) = line ++ joined lines
 pub joined_more : (lines more : List (List ℕ)) → joined (lines ++ more) ≡ joined lines ++ joined more
 joined_more [] more = refl
 joined_more (line ∷ lines) more = ap (λ l. line ++ l) (joined_more lines more) ∙ sym (append_assoc line (joined lines) (joined more))
-
--- those lines that begin with a word
-abbrev pub lines_with : List ℕ → List (List ℕ) → List (List ℕ)
-lines_with word [] = []
-lines_with word (line ∷ lines) = if begins_with word line then line ∷ lines_with word lines else lines_with word lines
 
 -- bytes and a line feed behind them
 pub record IsLine (line : List ℕ) : Type 0 where

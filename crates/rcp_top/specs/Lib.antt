@@ -12,3 +12,4 @@ pub mod Laws
 pub mod Replay
 pub mod Printed
 pub mod Headline
+pub mod EachFrame

@@ -18,6 +18,12 @@ begins_with [] line = true
 begins_with (b ∷ word) [] = false
 begins_with (b ∷ word) (byte ∷ line) = (b == byte) && begins_with word line
 
+-- those lines that begin with it
+abbrev pub lines_with : List ℕ → List (List ℕ) → List (List ℕ)
+lines_with word [] = []
+lines_with word (line ∷ lines) =
+    if begins_with word line then line ∷ lines_with word lines else lines_with word lines
+
 -- a line that begins a frame
 abbrev pub is_frame_line : List ℕ → Bool
 is_frame_line line = begins_with (codes "frame ") line
@@ -36,3 +42,7 @@ lines_after word (suc frames) (line ∷ lines) =
 -- the lines of frame t of a text that begin with a word
 abbrev pub lines_of_frame : List ℕ → ℕ → List ℕ → List (List ℕ)
 lines_of_frame word t text = lines_after word (suc t) (lines_in text)
+
+-- the lines of a text that begin its frames
+abbrev pub frame_lines : List ℕ → List (List ℕ)
+frame_lines text = lines_with (codes "frame ") (lines_in text)

@@ -1,5 +1,6 @@
 //! What follows from the clause `ends` of the top call, for all calls.
 //! This project's own.
+ghost use Rattle.rcp_top.specs.EachFrame.{ReplaysTellEachFrame};
 ghost use Rattle.rcp_top.specs.Headline.{CutReplaysAreIdealUnderTheGuard, GuardsAreTested, ReplaysAreIdealUnderTheGuard};
 ghost use Rattle.rcp_top.specs.Laws.{AnalysesAreRight, ARunThatCanFinishDoes, NoFailedReadLeavesNoChoice, PatternsAreRefusedAtCycles};
 
@@ -31,6 +32,13 @@ pub fn analyses_are_right()
 pub fn guards_are_tested()
     ensures { GuardsAreTested }
 {}
+
+/// In each frame, with or without the guard, `replay` prints the guard, the votes and what each replica holds.
+pub fn replays_tell_each_frame()
+    ensures { ReplaysTellEachFrame }
+{
+    histories_go_by_frames();
+}
 
 /// Under the guard `replay` prints the votes that `ideal` prints, and for each working replica what
 /// the single processor holds, byte for byte.
