@@ -16,3 +16,4 @@ mod FrameLines
 mod HeadlineLemmas
 mod ReplayedLemmas
 mod EachFrameLemmas
+mod ReplayExamples
