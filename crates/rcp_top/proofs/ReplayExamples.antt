@@ -7,10 +7,9 @@ use Rattle.rcp_base.specs.Majority.{majority_of, voted_value}
 use Rattle.rcp_base.specs.Median.{chosen_value}
 use Rattle.rcp_base.specs.Tables.{table}
 use Rattle.rcp_model.specs.declared.plan.PlanParts.{PlanParts}
-use Rattle.rcp_model.specs.declared.plan.Timing.{Timing}
 use Rattle.rcp_model.specs.Ballot.{is_median, taken_slot, voted_cell, voted_cells, ballot_of}
 use Rattle.rcp_model.specs.Command.{command_of, voted_command}
-use Rattle.rcp_model.specs.FrameRows.{FrameRows, entry_at, is_down, slot_row, cell_row, act_row, lie_row, lie_slot_row, is_dropped, skew_of, rate_of, delay_of, no_rows}
+use Rattle.rcp_model.specs.FrameRows.{entry_at, is_down, slot_row, cell_row, act_row, lie_row, lie_slot_row, is_dropped, skew_of, rate_of, delay_of, no_rows}
 use Rattle.rcp_model.specs.Health.{is_untouched, keeps_time, is_faithful, is_timely, is_healthy}
 use Rattle.rcp_model.specs.History.{History}
 use Rattle.rcp_model.specs.Messages.{is_voted, own_message, message_to, goes_out, arrival_of, letter_to, heard_message}
