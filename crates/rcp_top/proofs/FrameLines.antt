@@ -1,6 +1,6 @@
 -- The texts of `ideal` and `replay` as their lines, and which of them are those of a frame.
 use Rattle.std.proofs.Common.{◌≡◌, ℕ, zero, suc, ◌+◌, ◌<◌, Bool, true, false, cond, List, [], ◌∷◌, ◌++◌, length, map, flat_map, codes, get_or, slice_get, take, drop, reverse, Some, refl, sym, ap, ◌∙◌, append_assoc, append-nil, arith}
-use Rattle.std.specs.Prelude.{⊤, ◌&&◌, pos}
+use Rattle.std.specs.Prelude.{⊤, pos}
 use Rattle.std.specs.List.{range_with_len, list_all}
 use Rattle.std.proofs.lemmas.List.{reverse-append, length-take-le, drop_more, take-append-drop}
 use Rattle.rcp_base.specs.Name.{is_name}
@@ -17,7 +17,7 @@ use Rattle.trace_text.specs.Lines.{count_line, frame_line, frame_guard_line, vot
 use Rattle.rcp_top.specs.Ideal.{frame_text, frames_text, ideal_text, sensors_of_history}
 use Rattle.rcp_top.specs.Printed.{frame_lines, lines_with, lines_in, begins_with, is_frame_line, lines_after, lines_of_frame}
 use Rattle.rcp_top.specs.Replay.{meets_guard, voted_line, held_line, voted_lines, held_lines, replay_frame_text, replay_frames_text, replay_text}
-use Rattle.rcp_top.proofs.LineShapes.{free_name, frame_is_line, frame_guard_is_line, vote_is_line, ideal_is_line, replica_is_line, recovery_is_line, end_is_line, frame_begins, frame_guard_begins, vote_is_no_frame, replica_is_no_frame, ideal_is_no_frame}
+use Rattle.rcp_top.proofs.LineShapes.{both_true, free_name, frame_is_line, frame_guard_is_line, vote_is_line, ideal_is_line, replica_is_line, recovery_is_line, end_is_line, frame_begins, frame_guard_begins, vote_is_no_frame, replica_is_no_frame, ideal_is_no_frame}
 use Rattle.rcp_top.proofs.PrintedLemmas.{HasNoFeed, IsLine, AreLines, HasNoFrame, joined, joined_more, lines_joined, joined_lines, no_frame_joined, passed_over, taken_here}
 
 -- these frames and those past, the newest first
@@ -127,10 +127,6 @@ mapped_frames line (x ∷ xs) are = (are x, mapped_frames line xs are)
 abbrev pub AreNamed : List ActuatorRow → Type 0
 AreNamed [] = ⊤
 AreNamed (actuator ∷ actuators) = HasNoFeed actuator.name × AreNamed actuators
-
-both_true : (a b : Bool) → (a && b) ≡ true → (a ≡ true) × (b ≡ true)
-both_true true b is = (refl, is)
-both_true false b is = cc is
 
 pub are_named : (actuators : List ActuatorRow) → list_all is_name (actuator_names actuators) ≡ true → AreNamed actuators
 are_named [] is = tt

@@ -25,7 +25,7 @@ use Rattle.rcp_top.specs.Ideal.{ideal_text, sensors_of_history}
 use Rattle.rcp_top.specs.Printed.{lines_with, begins_with, lines_of_frame}
 use Rattle.rcp_top.specs.Replay.{voted_line, held_line, replay_text}
 use Rattle.rcp_top.proofs.FrameLines.{at_t, ideal_vote, ideal_held, ideal_rest, actuator_numbers, replay_rest, ideal_split, replay_split, are_named, votes_are_of_frames, replicas_are_of_frames, ideals_are_of_frames}
-use Rattle.rcp_top.proofs.LineShapes.{vote_begins, vote_is_no_replica, vote_is_no_ideal, replica_begins, replica_is_no_vote, ideal_begins, ideal_is_no_vote, working_line, ideal_state as ideal_bytes}
+use Rattle.rcp_top.proofs.LineShapes.{both_true, not_true, vote_begins, vote_is_no_replica, vote_is_no_ideal, replica_begins, replica_is_no_vote, ideal_begins, ideal_is_no_vote, working_line, ideal_state as ideal_bytes}
 
 -- those of two lists of lines
 with_joined : (word : List ℕ) (a b : List (List ℕ)) → lines_with word (a ++ b) ≡ lines_with word a ++ lines_with word b
@@ -82,14 +82,6 @@ numbered {Y = Y} line count k below =
         in_range (a + 1) n k (omega (arith, below)) ∙ ap (λ (x : ℕ). Some x) e
 
 -- a working replica is not down
-both_true : (a b : Bool) → (a && b) ≡ true → (a ≡ true) × (b ≡ true)
-both_true true b is = (refl, is)
-both_true false b is = cc is
-
-not_true : (t : Bool) → not t ≡ true → t ≡ false
-not_true false is = refl
-not_true true is = cc is
-
 first_of_four : (a b c d : Bool) → (a && b && c && d) ≡ true → a ≡ true
 first_of_four a b c d is = (both_true a b (both_true (a && b) c (both_true (a && b && c) d is).0).0).0
 

@@ -11,11 +11,12 @@ use Rattle.trace_text.specs.Lines.{numbers_text, yes_or_no, down_or_up, value_or
 use Rattle.rcp_top.specs.Printed.{begins_with, is_frame_line}
 use Rattle.rcp_top.proofs.PrintedLemmas.{HasNoFeed, IsLine}
 
-not_true : (t : Bool) → not t ≡ true → t ≡ false
+-- tests that pass
+pub not_true : (t : Bool) → not t ≡ true → t ≡ false
 not_true false is = refl
 not_true true is = cc is
 
-both_true : (a b : Bool) → (a && b) ≡ true → (a ≡ true) × (b ≡ true)
+pub both_true : (a b : Bool) → (a && b) ≡ true → (a ≡ true) × (b ≡ true)
 both_true true b is = (refl, is)
 both_true false b is = cc is
 
