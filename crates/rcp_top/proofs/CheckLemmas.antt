@@ -1,6 +1,5 @@
 -- The lines of a vote pattern, one slot at a time.
-use Rattle.std.proofs.lemmas.Grind.{flat_map-append}
-use Rattle.std.proofs.Common.{◌≡◌, ℕ, zero, suc, ◌+◌, ◌<◌, ◌≤◌, List, [], ◌∷◌, ◌++◌, flat_map, append-nil, refl, ap, sym, ◌∙◌, arith}
+use Rattle.std.proofs.Common.{◌≡◌, ℕ, zero, suc, ◌+◌, ◌<◌, ◌≤◌, List, ◌++◌, flat_map, refl, ap, ◌∙◌, arith}
 use Rattle.std.specs.List.{range_with_len}
 use Rattle.rcp_model.specs.declared.plan.Variable.{Variable}
 use Rattle.rcp_model.specs.PlanGraph.{voted_at}
@@ -9,6 +8,7 @@ use Rattle.trace_text.specs.PlanLines.{slot_line}
 use Rattle.vote_pattern.proofs.GraphLaws.{listed_alike}
 use Rattle.vote_pattern.specs.Votes.{Votes, AreVotesOf, votes_at}
 use Rattle.rcp_top.specs.PatternText.{slot_lines}
+use Rattle.rcp_top.proofs.LineLemmas.{numbered_more}
 
 -- the lines of so many slots from one on
 abbrev pub slots_left : List Variable → (ℕ → List ℕ) → ℕ → ℕ → List ℕ
@@ -35,14 +35,4 @@ graph_lines cells g votes are =
 
 -- the lines of one slot more
 pub slot_lines_more : (cells : List Variable) (voted : ℕ → List ℕ) (slot : ℕ) → slot_lines cells voted slot ++ slot_line cells slot (voted slot) ≡ slot_lines cells voted (slot + 1)
-slot_lines_more cells voted slot =
-    let line : ℕ → List ℕ = λ s. slot_line cells s (voted s) in
-    let one : suc slot ≡ slot + 1 = omega arith in
-    sym (ap (slot_lines cells voted) (sym one) ∙ ap (flat_map line) (range_longer 0 slot) ∙ flat_map-append line (range_with_len 0 slot) ((0 + slot) ∷ [])
-    ∙ ap (λ ls. slot_lines cells voted slot ++ ls) (append-nil (line (0 + slot)) ∙ ap line (let e : 0 + slot ≡ slot = omega arith in e)))
-  where
-    range_longer : (a n : ℕ) → range_with_len a (suc n) ≡ range_with_len a n ++ (a + n) ∷ []
-    range_longer a zero = let e : a ≡ a + 0 = omega arith in ap (λ x. x ∷ []) e
-    range_longer a (suc n) =
-        let e : a + 1 + n ≡ a + suc n = omega arith in
-        ap (λ xs. a ∷ xs) (range_longer (a + 1) n ∙ ap (λ x. range_with_len (a + 1) n ++ x ∷ []) e)
+slot_lines_more cells voted slot = numbered_more (λ s. slot_line cells s (voted s)) slot

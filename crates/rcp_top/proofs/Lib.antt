@@ -17,3 +17,4 @@ mod HeadlineLemmas
 mod ReplayedLemmas
 mod EachFrameLemmas
 mod ReplayExamples
+mod ReplayLemmas

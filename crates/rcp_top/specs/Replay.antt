@@ -56,11 +56,14 @@ replay_frames_text plan recovery past (rows ∷ frames) =
     replay_frame_text plan recovery rows past
     ++ replay_frames_text plan recovery (rows ∷ past) frames
 
+-- the text of a run over a history, all but the line of its recovery length
+abbrev pub run_text : PlanParts → ℕ → History → List ℕ
+run_text plan recovery history =
+    replay_frames_text plan recovery [] history ++ count_line label.End (length history)
+
 -- the text of the replicated system over a history, with this recovery length
 unfoldable pub replay_text : PlanParts → ℕ → History → List ℕ
-replay_text plan recovery history =
-    count_line label.Recovery recovery
-    ++ (replay_frames_text plan recovery [] history ++ count_line label.End (length history))
+replay_text plan recovery history = count_line label.Recovery recovery ++ run_text plan recovery history
 
 -- how soon the vote pattern of a plan recovers
 abbrev pub recovery_of_plan : PlanParts → ℕ

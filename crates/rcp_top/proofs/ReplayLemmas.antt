@@ -1,0 +1,121 @@
+-- The text of a replay, one frame at a time, and what each of its lines is of.
+use Rattle.std.proofs.Common.{◌≡◌, ◌↔◌, ℕ, ℤ, pos, ◌+◌, ◌<◌, ◌≤◌, Bool, true, false, IsTrue, List, [], ◌∷◌, ◌++◌, length, take, drop, reverse, get_or, Result, refl, ap, sym, ◌∙◌, subst, arith, append_assoc}
+use Rattle.std.proofs.lemmas.List.{take_more, drop_more, drop_all, reverse-append, length-take-le, length-reverse, length-map, get_or-take}
+use Rattle.rcp_base.specs.declared.sink.WriteError.{WriteError}
+use Rattle.rcp_base.specs.Adding.{Adds, IsHalfway}
+use Rattle.rcp_base.specs.Filling.{Filled}
+use Rattle.rcp_base.specs.States.{SinkState}
+use Rattle.rcp_base.specs.Tables.{table}
+use Rattle.rcp_base.proofs.AddingLaws.{halfway_as, halfway_more}
+use Rattle.rcp_base.proofs.FillLaws.{is_table}
+use Rattle.rcp_base.proofs.TableLaws.{length-table, table_same}
+use Rattle.rcp_model.specs.declared.plan.PlanParts.{PlanParts}
+use Rattle.rcp_model.specs.FrameRows.{FrameRows, is_down}
+use Rattle.rcp_model.specs.Health.{MeetsGuard, is_working}
+use Rattle.rcp_model.specs.History.{History, past_of}
+use Rattle.rcp_model.specs.System.{SystemState, initial_state, next_state, end_of_frame, state_after, state_after_rows}
+use Rattle.layer_stack.specs.Inputs.{IsHistoryOf}
+use Rattle.layer_stack.specs.Layer.{cell_in}
+use Rattle.layer_stack.specs.Run.{CanRun, StandsFor}
+use Rattle.layer_stack.specs.declared.run.Run.{Run}
+use Rattle.trace_text.specs.declared.label.Label.TheVariants as label
+use Rattle.trace_text.specs.Lines.{count_line, replica_line}
+use Rattle.rcp_top.specs.Replay.{held_line, meets_guard, replay_frame_text, replay_frames_text, run_text}
+use Rattle.rcp_top.proofs.GuardLemmas.{guard_is_tested}
+
+-- the first places of a list that was filled so far are a table
+pub first_places : {X : Type 0} (n most : ℕ) (f : ℕ → X) (d : X) (old new : List X) (i : ℕ) → Filled most f d old new i → n ≤ i → n ≤ most → take n new ≡ table n f
+first_places n most f d old new i h le few =
+    is_table n f (take n new) d (length-take-le n new (omega (arith, h.size))) (λ k lt. get_or-take n new k d lt ∙ h.done k (omega arith))
+
+-- each replica has as many cells as its plan
+as_many_held : (plan : PlanParts) (past : List FrameRows) (replica : ℕ) → length ((state_after plan past).replicas replica).cells ≡ length plan.cells
+unfolding initial_state next_state end_of_frame state_after_rows
+as_many_held plan [] replica = length-map plan.cells _
+as_many_held plan (rows ∷ past) replica = length-table (length plan.cells) _
+
+-- and they are all that is told of it
+pub held_cells : (plan : PlanParts) (past : List FrameRows) (replica : ℕ)
+    → table (length plan.cells) (cell_in (state_after plan past) replica) ≡ ((state_after plan past).replicas replica).cells
+held_cells plan past replica =
+    let cells = ((state_after plan past).replicas replica).cells in
+    ap (λ n. table n (cell_in (state_after plan past) replica)) (sym (as_many_held plan past replica)) ∙ table_same cells (pos 0)
+
+-- a guard that is told is the one that is tested
+pub guard_told : (plan : PlanParts) (recovery : ℕ) (past : List FrameRows) (told : Bool) → IsTrue told ↔ MeetsGuard plan recovery past → told ≡ meets_guard plan recovery past
+guard_told plan recovery past told is =
+    let tested = guard_is_tested plan recovery past in
+    grind (arith, is, tested)
+
+-- the frame after t frames, where it is there, and all up to it
+pub past_at : (history : History) (t : ℕ) (d : FrameRows) → t < length history → past_of history (t + 1) ≡ get_or history t d ∷ past_of history t
+past_at history t d lt = ap reverse (take_more history t d lt) ∙ reverse-append (take t history) (get_or history t d ∷ [])
+
+pub past_length : (history : History) (t : ℕ) → t ≤ length history → length (past_of history t) ≡ t
+past_length history t le = length-reverse (take t history) ∙ length-take-le t history le
+
+-- what is to be written after t frames
+abbrev pub rest_of_run : PlanParts → ℕ → History → ℕ → List ℕ
+rest_of_run plan recovery history t = replay_frames_text plan recovery (past_of history t) (drop t history) ++ count_line label.End (length history)
+
+pub run_at : (plan : PlanParts) (recovery : ℕ) (history : History) (t : ℕ) (d : FrameRows) → t < length history
+    → rest_of_run plan recovery history t ≡ replay_frame_text plan recovery (get_or history t d) (past_of history t) ++ rest_of_run plan recovery history (t + 1)
+unfolding replay_frames_text
+run_at plan recovery history t d lt =
+    let past = past_of history t in
+    let rows = get_or history t d in
+    let rest = drop (t + 1) history in
+    let last = count_line label.End (length history) in
+    ap (λ frames. replay_frames_text plan recovery past frames ++ last) (drop_more history t d lt)
+    ∙ (append_assoc (replay_frame_text plan recovery rows past) (replay_frames_text plan recovery (rows ∷ past) rest) last
+    ∙ ap (λ p. replay_frame_text plan recovery rows past ++ (replay_frames_text plan recovery p rest ++ last)) (sym (past_at history t d lt)))
+
+pub run_at_end : (plan : PlanParts) (recovery : ℕ) (history : History) (t : ℕ) → length history ≤ t → rest_of_run plan recovery history t ≡ count_line label.End (length history)
+unfolding replay_frames_text
+run_at_end plan recovery history t le =
+    ap (λ frames. replay_frames_text plan recovery (past_of history t) frames ++ count_line label.End (length history)) (drop_all t history le)
+
+-- one frame more was written
+pub run_more : {T U : Type 0} {a b : SinkState} {r : Result T WriteError} {whole : List ℕ} (plan : PlanParts) (recovery : ℕ) (history : History) (t : ℕ) (d : FrameRows)
+    (c : SinkState) (s : Result U WriteError) → t < length history → IsHalfway a b r (rest_of_run plan recovery history t) whole
+    → Adds b c r s (replay_frame_text plan recovery (get_or history t d) (past_of history t)) → IsHalfway a c s (rest_of_run plan recovery history (t + 1)) whole
+run_more plan recovery history t d c s lt so_far adds =
+    halfway_more c s (replay_frame_text plan recovery (get_or history t d) (past_of history t)) (rest_of_run plan recovery history (t + 1))
+    (halfway_as _ _ (run_at plan recovery history t d lt) so_far) adds
+
+-- a run of the plan can run its next frame
+pub can_run_next : {L : Type 0} (at : L → PlanParts → SystemState → Type 0) (plan : PlanParts) (run : Run L) (history : History) (n t : ℕ)
+    → run.plan.now ≡ plan → n ≡ t → t < length history → IsHistoryOf plan history → StandsFor at run (past_of history t) → CanRun at run history n 1
+can_run_next at plan run history n t same there more are stands =
+    let OfPlan : PlanParts → Type 0 = λ p. IsHistoryOf p history in
+    let Stands : ℕ → Type 0 = λ k. StandsFor at run (past_of history k) in
+    record { of_plan = subst OfPlan (sym same) are; more = omega (arith, there, more); stands = subst Stands (sym there) stands }
+
+-- and stands for it
+pub stands_next : {L : Type 0} (at : L → PlanParts → SystemState → Type 0) (run : Run L) (history : History) (n t : ℕ) (d : FrameRows)
+    → n ≡ t + 1 → t < length history → StandsFor at run (past_of history n) → StandsFor at run (get_or history t d ∷ past_of history t)
+stands_next at run history n t d there lt stands =
+    let Stands : ℕ → Type 0 = λ k. StandsFor at run (past_of history k) in
+    let P : List FrameRows → Type 0 = λ past. StandsFor at run past in
+    subst P (past_at history t d lt) (subst Stands there stands)
+
+-- where the layer of a run of the plan is
+pub at_of_run : {L : Type 0} (at : L → PlanParts → SystemState → Type 0) (plan : PlanParts) (run : Run L) (layer : L) (past : List FrameRows)
+    → run.plan.now ≡ plan → layer ≡ run.layer → StandsFor at run past → at layer plan (state_after plan past)
+at_of_run {L = L} at plan run layer past same is stands =
+    let P : PlanParts → Type 0 = λ p. at run.layer p (state_after p past) in
+    let Q : L → Type 0 = λ l. at l plan (state_after plan past) in
+    subst Q (sym is) (subst P same stands.at)
+
+-- the line of a replica, by what is told of it
+pub held_line_is : (plan : PlanParts) (recovery : ℕ) (rows : FrameRows) (past : List FrameRows) (replica : ℕ) (down : Bool) (slot : ℕ) (cells : List ℤ) (working : Bool)
+    → down ≡ is_down rows replica → slot ≡ ((state_after plan (rows ∷ past)).replicas replica).slot → cells ≡ ((state_after plan (rows ∷ past)).replicas replica).cells
+    → working ≡ is_working plan recovery (rows ∷ past) replica
+    → replica_line replica down slot cells working ≡ held_line plan recovery rows past replica
+held_line_is plan recovery rows past replica down slot cells working d s x w =
+    let held = (state_after plan (rows ∷ past)).replicas replica in
+    let there = is_down rows replica in
+    ap (λ b. replica_line replica b slot cells working) d
+    ∙ ap (λ n. replica_line replica there n cells working) s
+    ∙ ap (λ xs. replica_line replica there held.slot xs working) x
+    ∙ ap (λ b. replica_line replica there held.slot held.cells b) w
