@@ -35,11 +35,18 @@ as_many_held plan [] replica = length-map plan.cells _
 as_many_held plan (rows ∷ past) replica = length-table (length plan.cells) _
 
 -- and they are all that is told of it
-pub held_cells : (plan : PlanParts) (past : List FrameRows) (replica : ℕ)
+held_cells : (plan : PlanParts) (past : List FrameRows) (replica : ℕ)
     → table (length plan.cells) (cell_in (state_after plan past) replica) ≡ ((state_after plan past).replicas replica).cells
 held_cells plan past replica =
     let cells = ((state_after plan past).replicas replica).cells in
     ap (λ n. table n (cell_in (state_after plan past) replica)) (sym (as_many_held plan past replica)) ∙ table_same cells (pos 0)
+
+-- as many of the cells that are told of it are what it holds
+pub told_cells : (plan : PlanParts) (past : List FrameRows) (replica count : ℕ) (told : List ℤ) → count ≡ length plan.cells
+    → told ≡ table count (cell_in (state_after plan past) replica) → told ≡ ((state_after plan past).replicas replica).cells
+told_cells plan past replica count told many is =
+    let P : ℕ → Type 0 = λ n. told ≡ table n (cell_in (state_after plan past) replica) in
+    subst P many is ∙ held_cells plan past replica
 
 -- a guard that is told is the one that is tested
 pub guard_told : (plan : PlanParts) (recovery : ℕ) (past : List FrameRows) (told : Bool) → IsTrue told ↔ MeetsGuard plan recovery past → told ≡ meets_guard plan recovery past

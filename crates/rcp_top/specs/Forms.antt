@@ -1,5 +1,5 @@
 -- The forms of words, as far as they are built. This project's own.
-use Rattle.std.specs.Prelude.{ℕ, List, [], ◌∷◌, codes, map, string_bytes, Option, Some, None, if◌then◌else◌}
+use Rattle.std.specs.Prelude.{ℕ, ◌&&◌, List, [], ◌∷◌, codes, map, string_bytes, Option, Some, None, if◌then◌else◌}
 use Rattle.std.specs.Str.{bytes_eq}
 use Rattle.std.proofs.Common.{String, Global}
 use Rattle.rcp_top.specs.declared.form.Form as asked
@@ -7,6 +7,7 @@ use Rattle.rcp_top.specs.declared.form.Form.TheVariants as asked_variant
 use Rattle.rcp_top.specs.Check.{check_of}
 use Rattle.rcp_top.specs.Ideal.{ideal_of}
 use Rattle.rcp_top.specs.Reading.{Reading}
+use Rattle.rcp_top.specs.Replay.{replay_of}
 use Rattle.rcp_top.specs.Thin.{thin_of}
 
 -- a form of words, with the words that name files
@@ -14,6 +15,7 @@ pub data Form : Type 0 where
   check : (file : List ℕ) → Form
   thin : (file : List ℕ) → Form
   ideal : (file journal : List ℕ) → Form
+  replay : (file journal : List ℕ) → Form
 
 -- the words, as their bytes
 abbrev pub bytes_of_words : List (String Global) → List (List ℕ)
@@ -27,6 +29,8 @@ form_of (word ∷ file ∷ []) =
     else None
 form_of (word ∷ file ∷ journal ∷ []) =
     if bytes_eq word (codes "ideal") then Some (Form.ideal file journal) else None
+form_of (word ∷ file ∷ journal ∷ last ∷ []) =
+    if bytes_eq word (codes "replay") && bytes_eq last (codes "rs") then Some (Form.replay file journal) else None
 form_of _ = None
 
 -- the form that the code's value is
@@ -34,9 +38,11 @@ abbrev pub form_in : asked.Form → Form
 form_in (asked_variant.Check file) = Form.check file.now
 form_in (asked_variant.Thin file) = Form.thin file.now
 form_in (asked_variant.Ideal file journal) = Form.ideal file.now journal.now
+form_in (asked_variant.Replay file journal) = Form.replay file.now journal.now
 
 -- what is read for a form, and the text that is then due
 abbrev pub work_of : Form → Reading (List ℕ)
 work_of (Form.check file) = check_of file
 work_of (Form.thin file) = thin_of file
 work_of (Form.ideal file journal) = ideal_of file journal
+work_of (Form.replay file journal) = replay_of file journal

@@ -38,6 +38,7 @@ abbrev pub file_of : Form → List ℕ
 file_of (Form.check file) = file
 file_of (Form.thin file) = file
 file_of (Form.ideal file journal) = file
+file_of (Form.replay file journal) = file
 
 -- words of a form whose task file is there and gives a plan
 pub record GivesPlan (words : List (List ℕ)) (files : Files) (form : Form) (plan : PlanParts) : Type 0 where

@@ -1,6 +1,6 @@
 -- `replay FILE JOURNAL`: the run of the replicated system, frame by frame.
 -- After NASA TM-102716; the text is this project's own.
-use Rattle.std.specs.Prelude.{ℕ, suc, ◌*◌, nat_lt, Bool, true, ◌&&◌, List, [], ◌∷◌, ◌++◌, length, flat_map}
+use Rattle.std.specs.Prelude.{◌≡◌, ◌≤◌, ℕ, suc, ◌*◌, nat_lt, Bool, true, ◌&&◌, List, [], ◌∷◌, ◌++◌, length, flat_map}
 use Rattle.std.specs.List.{range_with_len}
 use Rattle.rcp_model.specs.declared.plan.PlanParts.{PlanParts}
 use Rattle.rcp_model.specs.FrameRows.{FrameRows, is_down}
@@ -10,8 +10,10 @@ use Rattle.rcp_model.specs.PlanGraph.{graph_of_plan}
 use Rattle.rcp_model.specs.Shown.{recovery_length}
 use Rattle.rcp_model.specs.Slot.{actuator_at}
 use Rattle.rcp_model.specs.System.{state_after, actuator_vote}
+use Rattle.fault_journal.specs.Telling.{IsJournalOf, history_in}
 use Rattle.trace_text.specs.declared.label.Label.TheVariants as label
 use Rattle.trace_text.specs.Lines.{count_line, frame_guard_line, replica_line, vote_line}
+use Rattle.rcp_top.specs.declared.replay.Replay.{Replay}
 use Rattle.rcp_top.specs.Read.{plan_at, history_at, shown}
 use Rattle.rcp_top.specs.Reading.{Reading, ◌>>=◌}
 
@@ -75,3 +77,11 @@ replay_of file journal = do
   plan ← plan_at file
   history ← history_at plan journal
   shown (replay_text plan (recovery_of_plan plan) history)
+
+-- what was found shows this text
+pub record ShowsReplay (found : Replay) (text : List ℕ) : Type 0 where
+  pub journal : IsJournalOf found.judged.plan found.journal
+  pub some : 1 ≤ found.judged.length
+  pub is :
+      text
+      ≡ replay_text found.judged.plan found.judged.length (history_in found.judged.plan found.journal)

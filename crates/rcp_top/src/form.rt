@@ -9,6 +9,7 @@ pub enum Form<'a> {
     Check { file: &'a str },
     Thin { file: &'a str },
     Ideal { file: &'a str, journal: &'a str },
+    Replay { file: &'a str, journal: &'a str },
 }
 
 /// The form that the words are, if they are one.
@@ -29,6 +30,16 @@ pub fn form_of(words: &[String]) -> Option<Form<'_>>
         [word, file, journal] => {
             if word.as_str() == "ideal" {
                 Some(Form::Ideal {
+                    file: file.as_str(),
+                    journal: journal.as_str(),
+                })
+            } else {
+                None
+            }
+        }
+        [word, file, journal, last] => {
+            if word.as_str() == "replay" && last.as_str() == "rs" {
+                Some(Form::Replay {
                     file: file.as_str(),
                     journal: journal.as_str(),
                 })

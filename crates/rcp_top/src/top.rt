@@ -10,6 +10,7 @@ ghost use Rattle.rcp_top.specs.Reading.{Does};
 use crate::check::read_check;
 use crate::form::{Form, form_of};
 use crate::ideal::read_ideal;
+use crate::replay::read_replay;
 use crate::shown::{end, finish};
 use crate::status::Status;
 use crate::thin::read_thin;
@@ -68,6 +69,9 @@ fn run_form<F: Folder, S: Sink>(
         Form::Thin { file } => finish(alloc, read_thin(alloc, folder, file), lines, out),
         Form::Ideal { file, journal } => {
             finish(alloc, read_ideal(alloc, folder, file, journal), lines, out)
+        }
+        Form::Replay { file, journal } => {
+            finish(alloc, read_replay(alloc, folder, file, journal), lines, out)
         }
     }
 }

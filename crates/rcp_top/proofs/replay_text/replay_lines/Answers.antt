@@ -9,7 +9,7 @@ use Rattle.trace_text.specs.declared.label.Label.TheVariants as label
 use Rattle.trace_text.specs.Lines.{count_line}
 use Rattle.rcp_top.specs.Replay.{replay_frame_text}
 use Rattle.rcp_top.proofs.ReplayLemmas.{can_run_next, past_length, run_at_end, run_more, stands_next}
-use Rattle.rcp_top.proofs.replay.replay_lines.Goals as goal
+use Rattle.rcp_top.proofs.replay_text.replay_lines.Goals as goal
 
 pub loop-t-init : goal.loop-t-init
 loop-t-init g c = record {

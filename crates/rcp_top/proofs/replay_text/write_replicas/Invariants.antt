@@ -5,7 +5,7 @@ use Rattle.rcp_base.specs.Adding.{Adds}
 use Rattle.layer_stack.specs.Run.{StandsFor}
 use Rattle.rcp_model.specs.FrameRows.{FrameRows}
 use Rattle.rcp_top.specs.Replay.{held_line}
-use Rattle.rcp_top.proofs.replay.write_replicas.Given as goal
+use Rattle.rcp_top.proofs.replay_text.write_replicas.Given as goal
 
 abbrev pub invariant-loop-replica : goal.invariant-loop-replica
 invariant-loop-replica g l =

@@ -6,7 +6,7 @@ use Rattle.rcp_base.proofs.AddingLaws.{adds_then}
 use Rattle.rcp_model.specs.declared.plan.PlanParts.{PlanParts}
 use Rattle.rcp_top.specs.Replay.{voted_line}
 use Rattle.rcp_top.proofs.LineLemmas.{numbered_more}
-use Rattle.rcp_top.proofs.replay.write_votes.Goals as goal
+use Rattle.rcp_top.proofs.replay_text.write_votes.Goals as goal
 
 pub loop-actuator-preserved : goal.loop-actuator-preserved
 loop-actuator-preserved g c past stands =

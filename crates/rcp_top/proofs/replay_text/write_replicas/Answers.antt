@@ -6,7 +6,7 @@ use Rattle.rcp_base.proofs.AddingLaws.{adds_then}
 use Rattle.rcp_model.specs.declared.plan.PlanParts.{PlanParts}
 use Rattle.rcp_top.specs.Replay.{held_line}
 use Rattle.rcp_top.proofs.LineLemmas.{numbered_more}
-use Rattle.rcp_top.proofs.replay.write_replicas.Goals as goal
+use Rattle.rcp_top.proofs.replay_text.write_replicas.Goals as goal
 
 pub loop-replica-preserved : goal.loop-replica-preserved
 loop-replica-preserved g c rows past stands =

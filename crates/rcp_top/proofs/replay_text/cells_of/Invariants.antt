@@ -5,7 +5,7 @@ use Rattle.rcp_base.specs.Filling.{Filled}
 use Rattle.layer_stack.specs.Layer.{cell_in}
 use Rattle.rcp_model.specs.declared.plan.PlanParts.{PlanParts}
 use Rattle.rcp_model.specs.System.{SystemState}
-use Rattle.rcp_top.proofs.replay.cells_of.Given as goal
+use Rattle.rcp_top.proofs.replay_text.cells_of.Given as goal
 
 abbrev pub invariant-loop-cell : goal.invariant-loop-cell
 invariant-loop-cell g l =

@@ -6,7 +6,7 @@ use Rattle.rcp_model.specs.Health.{MeetsGuard}
 use Rattle.trace_text.specs.Lines.{frame_guard_line}
 use Rattle.rcp_top.specs.Replay.{held_lines, meets_guard, replay_frame_text, voted_lines}
 use Rattle.rcp_top.proofs.ReplayLemmas.{guard_told}
-use Rattle.rcp_top.proofs.replay.write_frame.Goals as goal
+use Rattle.rcp_top.proofs.replay_text.write_frame.Goals as goal
 
 pub returns : goal.returns
 unfolding replay_frame_text

@@ -6,7 +6,7 @@ use Rattle.layer_stack.specs.Inputs.{IsHistoryOf}
 use Rattle.layer_stack.specs.Run.{StandsFor}
 use Rattle.rcp_top.specs.Replay.{run_text}
 use Rattle.rcp_top.proofs.ReplayLemmas.{rest_of_run}
-use Rattle.rcp_top.proofs.replay.replay_lines.Given as goal
+use Rattle.rcp_top.proofs.replay_text.replay_lines.Given as goal
 
 abbrev pub invariant-loop-t : goal.invariant-loop-t
 invariant-loop-t g l = record {

@@ -1,12 +1,10 @@
 -- What the run and its layer tell of a replica is what it holds.
 use Rattle.std.proofs.Common.{◌≡◌, ◌∷◌, length, ap, ◌∙◌}
-use Rattle.rcp_base.specs.Tables.{table}
-use Rattle.layer_stack.specs.Layer.{cell_in}
 use Rattle.rcp_model.specs.declared.plan.PlanParts.{PlanParts}
 use Rattle.rcp_model.specs.Health.{is_working}
 use Rattle.rcp_model.specs.System.{state_after}
-use Rattle.rcp_top.proofs.ReplayLemmas.{at_of_run, held_cells, held_line_is}
-use Rattle.rcp_top.proofs.replay.write_replica.Goals as goal
+use Rattle.rcp_top.proofs.ReplayLemmas.{at_of_run, held_line_is, told_cells}
+use Rattle.rcp_top.proofs.replay_text.write_replica.Goals as goal
 
 pub returns : goal.returns
 returns g c rows past stands =
@@ -17,8 +15,7 @@ returns g c rows past stands =
     let state = state_after plan now in
     let at = at_of_run {L = g.row.L.Denot} g.L.Layer.is_at plan run c.layer-layer.result.now now c.requires.plan c.layer-layer.ensures stands in
     let count : c.len-count.result ≡ length plan.cells = c.len-count.ensures ∙ ap (λ (parts : PlanParts). length parts.cells) c.parts.ensures.parts in
-    let cells =
-    c.cells_of-cells.ensures plan state at c.requires.replica count ∙ ap (λ n. table n (cell_in state replica)) count ∙ held_cells plan now replica in
+    let cells = told_cells plan now replica c.len-count.result _ count (c.cells_of-cells.ensures plan state at c.requires.replica count) in
     let working = c.working-working.ensures now stands ∙ ap (λ (p : PlanParts). is_working p run.length now replica) c.requires.plan in
     let line =
     held_line_is plan run.length rows past replica _ _ _ _ (c.is_down-down.ensures now stands) (c.slot.ensures plan state at c.requires.replica) cells working in

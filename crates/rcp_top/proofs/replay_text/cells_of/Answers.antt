@@ -2,7 +2,7 @@ use Rattle.std.proofs.Common.{pos, arith}
 use Rattle.rcp_base.specs.declared.TheConstants.{MAX_CELLS}
 use Rattle.layer_stack.specs.Layer.{cell_in}
 use Rattle.rcp_top.proofs.ReplayLemmas.{first_places}
-use Rattle.rcp_top.proofs.replay.cells_of.Goals as goal
+use Rattle.rcp_top.proofs.replay_text.cells_of.Goals as goal
 
 pub returns : goal.returns
 returns g c plan state at below count =
