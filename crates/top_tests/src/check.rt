@@ -94,12 +94,15 @@ votes = ["sum"] => votes = [] && votes = ["pos"] => votes = [] => 0:pos 1:pos
 votes = ["sum"] => votes = ["err"] && votes = ["pos"] => votes = ["sum"] => 0:pos 1:pos
 "#;
 
-// The forms that read a plan, the last two with a journal that is none.
+// The forms that read a plan, some with a journal that is none.
 const FORMS: &str = "check T
 thin T
 ideal T J
 ideal T Y
 ideal T B
+replay T J rs
+replay T Y rs
+replay T B rs
 ";
 
 #[test]

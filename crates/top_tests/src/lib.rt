@@ -20,6 +20,8 @@ mod journals;
 #[cfg(test)]
 mod outside;
 #[cfg(test)]
+mod replay;
+#[cfg(test)]
 mod task_files;
 #[cfg(test)]
 mod thin;

@@ -65,10 +65,11 @@ fn check_front(
     rt: &impl Abort,
     alloc: Global,
     line: &str,
+    files: (&[u8], &[u8]),
     write: u32,
     due: (&str, &str),
 ) -> Result<(), Fail> {
-    let mut folder = folder_of(alloc, COUNTER.as_bytes(), TWO_FRAMES.as_bytes())?;
+    let mut folder = folder_of(alloc, files.0, files.1)?;
     let mut out = sink_failing_at(alloc, write)?;
     check_call(rt, alloc, line, &mut folder, &mut out, due)
 }
@@ -77,22 +78,29 @@ fn check_fronts(
     rt: &impl Abort,
     alloc: Global,
     line: &str,
+    files: (&[u8], &[u8]),
     text: &str,
     written: &mut String,
 ) -> Result<(), Fail> {
     let mut write = 1u32;
     for next in text.lines() {
-        check_front(rt, alloc, line, write, ("7", written.as_str()))?;
+        check_front(rt, alloc, line, files, write, ("7", written.as_str()))?;
         put_line(written, next)?;
         write = write.saturating_add(1);
     }
-    check_front(rt, alloc, line, write, ("0", written.as_str()))
+    check_front(rt, alloc, line, files, write, ("0", written.as_str()))
 }
 
-// Before each write the lines so far were written, and after the last all of them.
-fn lines_are_writes(rt: &impl Abort, alloc: Global, line: &str, text: &str) -> Result<(), Fail> {
+/// Over these two files, before each write the lines so far were written, and after the last all of them.
+pub fn lines_are_writes(
+    rt: &impl Abort,
+    alloc: Global,
+    line: &str,
+    files: (&[u8], &[u8]),
+    text: &str,
+) -> Result<(), Fail> {
     let mut written = String::new(alloc);
-    check_fronts(rt, alloc, line, text, &mut written)
+    check_fronts(rt, alloc, line, files, text, &mut written)
 }
 
 #[test]
@@ -102,6 +110,7 @@ fn failures_are_told(rt: HostRuntime) -> Result<(), Fail> {
 
 #[test]
 fn each_line_is_one_write(rt: HostRuntime) -> Result<(), Fail> {
-    lines_are_writes(&rt, rt.alloc(), "ideal T J", COUNTED)?;
-    lines_are_writes(&rt, rt.alloc(), "check T", COUNTER_CHECKED)
+    let files = (COUNTER.as_bytes(), TWO_FRAMES.as_bytes());
+    lines_are_writes(&rt, rt.alloc(), "ideal T J", files, COUNTED)?;
+    lines_are_writes(&rt, rt.alloc(), "check T", files, COUNTER_CHECKED)
 }

@@ -22,6 +22,14 @@ CHECK T
 thin
 thin T J
 replay T J
+replay T
+replay T J ds
+replay T J da
+replay T J xs
+replay T J RS
+replay T rs
+replay T J rs rs
+ideal T J rs
 ";
 
 // A task file comes before its pattern, and that before the journal.
@@ -46,7 +54,19 @@ task file refused: E10 rule 1
 unreadable: X
 
 6 counter thin X
-unreadable: X"#;
+unreadable: X
+
+6 counter replay X Y rs
+unreadable: X
+
+3 counter replay B Y rs
+task file refused: E02
+
+6 counter replay T Y rs
+unreadable: Y
+
+5 counter replay T T rs
+journal refused: J03"#;
 
 #[test]
 fn words_that_are_no_form_are_refused(rt: HostRuntime) -> Result<(), Fail> {
