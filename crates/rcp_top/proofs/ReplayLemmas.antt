@@ -1,5 +1,5 @@
 -- The text of a replay, one frame at a time, and what each of its lines is of.
-use Rattle.std.proofs.Common.{◌≡◌, ◌↔◌, ℕ, ℤ, pos, ◌+◌, ◌<◌, ◌≤◌, Bool, true, false, IsTrue, List, [], ◌∷◌, ◌++◌, length, take, drop, reverse, get_or, Result, refl, ap, sym, ◌∙◌, subst, arith, append_assoc}
+use Rattle.std.proofs.Common.{◌≡◌, ◌↔◌, ℕ, ℤ, pos, ◌+◌, ◌<◌, ◌≤◌, Bool, IsTrue, List, [], ◌∷◌, ◌++◌, length, take, drop, reverse, get_or, Result, ap, sym, ◌∙◌, subst, arith, append_assoc}
 use Rattle.std.proofs.lemmas.List.{take_more, drop_more, drop_all, reverse-append, length-take-le, length-reverse, length-map, get_or-take}
 use Rattle.rcp_base.specs.declared.sink.WriteError.{WriteError}
 use Rattle.rcp_base.specs.Adding.{Adds, IsHalfway}
@@ -20,7 +20,7 @@ use Rattle.layer_stack.specs.Run.{CanRun, StandsFor}
 use Rattle.layer_stack.specs.declared.run.Run.{Run}
 use Rattle.trace_text.specs.declared.label.Label.TheVariants as label
 use Rattle.trace_text.specs.Lines.{count_line, replica_line}
-use Rattle.rcp_top.specs.Replay.{held_line, meets_guard, replay_frame_text, replay_frames_text, run_text}
+use Rattle.rcp_top.specs.Replay.{held_line, meets_guard, replay_frame_text, replay_frames_text}
 use Rattle.rcp_top.proofs.GuardLemmas.{guard_is_tested}
 
 -- the first places of a list that was filled so far are a table

@@ -57,14 +57,7 @@ impl Shown for Replay {
     ) -> Result<(), WriteError> {
         let mut journal = self.journal;
         let judged = &self.judged;
-        write_replay(
-            alloc,
-            lines,
-            &judged.plan,
-            judged.length,
-            &mut journal,
-            out,
-        )
+        write_replay(alloc, lines, &judged.plan, judged.length, &mut journal, out)
     }
 }
 

@@ -1,5 +1,5 @@
 -- The recovery length, and then the frames.
-use Rattle.std.proofs.Common.{ℕ, List, subst}
+use Rattle.std.proofs.Common.{ℕ, subst}
 use Rattle.std.proofs.lemmas.Result.{err_from_is_err_and}
 use Rattle.rcp_base.specs.Writing.{Writes}
 use Rattle.rcp_base.proofs.WritingLaws.{writes_less, writes_then}

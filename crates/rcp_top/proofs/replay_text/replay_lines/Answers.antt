@@ -1,5 +1,5 @@
 -- The frame that is written is the one for which the run stands, and what is left is to be written.
-use Rattle.std.proofs.Common.{◌≡◌, ◌+◌, ◌<◌, ◌≤◌, ℕ, List, ◌++◌, get_or, length, refl, ap, sym, ◌∙◌, subst, arith}
+use Rattle.std.proofs.Common.{◌≡◌, ◌+◌, ◌<◌, ◌≤◌, ℕ, get_or, length, refl, ap, sym, ◌∙◌, subst, arith}
 use Rattle.rcp_base.specs.Adding.{Adds}
 use Rattle.rcp_base.proofs.AddingLaws.{halfway_start, halfway_as, halfway_stop, halfway_last}
 use Rattle.rcp_model.specs.declared.plan.PlanParts.{PlanParts}

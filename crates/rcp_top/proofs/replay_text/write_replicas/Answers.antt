@@ -1,5 +1,5 @@
 -- The line of a replica is the next one that is to be written.
-use Rattle.std.proofs.Common.{◌≡◌, ℕ, List, ◌∷◌, flat_map, ap, subst, arith}
+use Rattle.std.proofs.Common.{◌≡◌, ℕ, List, flat_map, ap, subst, arith}
 use Rattle.std.specs.List.{range_with_len}
 use Rattle.rcp_base.specs.Adding.{Adds}
 use Rattle.rcp_base.proofs.AddingLaws.{adds_then}
