@@ -22,7 +22,8 @@ fn values_of<L: Ledger>(
     cells: &[i64],
     steps: &mut Steps<L>,
 ) -> Result<Vec<i64>, Memory>
-    ensures values { IfOk result (λ values. values.items ≡ set_values task.now sensors.now cells.now) }
+    ensures values { IfOk result (λ values.
+        values.items ≡ set_values task.now sensors.now cells.now) }
     ensures steps { steps.new ≤ steps.old + task_size task.now }
 {
     let mut codes = Vec::new(alloc);
