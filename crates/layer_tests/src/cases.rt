@@ -28,7 +28,12 @@ impl Case {
                 None => put_line(&mut due, line)?,
             }
         }
-        Ok(Case { file, length, journal, due })
+        Ok(Case {
+            file,
+            length,
+            journal,
+            due,
+        })
     }
 
     /// Its plan.
@@ -46,7 +51,9 @@ fn put_line(text: &mut String, line: &str) -> Result<(), Fail> {
 // The counter voted by the median, over so many replicas.
 fn median_counter(alloc: Global, replicas: &str) -> Result<String, Fail> {
     let file = COUNTER.replace(alloc, "replicas = 3", replicas)?;
-    let file = file.as_str().replace(alloc, "initial = 0 }", "initial = 0, vote = \"median\" }")?;
+    let file = file
+        .as_str()
+        .replace(alloc, "initial = 0 }", "initial = 0, vote = \"median\" }")?;
     Ok(format!(in alloc; "format = 2\n{}", file.as_str())?)
 }
 

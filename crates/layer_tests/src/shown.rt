@@ -152,7 +152,11 @@ fn put_heard<L: Layer>(
     requires stands { IsStanding L.is_at run.now }
 {
     text.push_str(format!(in alloc; "{to} hears of {from} slot")?.as_str())?;
-    put_number(alloc, text, run.layer().heard_slot(to, from).map(|slot| i64::from(slot)))?;
+    put_number(
+        alloc,
+        text,
+        run.layer().heard_slot(to, from).map(|slot| i64::from(slot)),
+    )?;
     text.push_str(" cells")?;
     for cell in 0..plan.parts().cells.len() as u32 {
         put_number(alloc, text, run.layer().heard_value(to, from, cell))?;
@@ -174,7 +178,11 @@ fn put_vote<L: Layer>(
     requires stands { IsStanding L.is_at run.now }
 {
     text.push_str(format!(in alloc; "{replica} takes slot")?.as_str())?;
-    put_number(alloc, text, run.layer().voted_slot(replica).map(|slot| i64::from(slot)))?;
+    put_number(
+        alloc,
+        text,
+        run.layer().voted_slot(replica).map(|slot| i64::from(slot)),
+    )?;
     text.push_str(" cells")?;
     for cell in 0..plan.parts().cells.len() as u32 {
         put_number(alloc, text, run.layer().voted_cell(replica, cell))?;
@@ -232,7 +240,12 @@ pub fn check_frames<L: Layer + Drop>(
     let mut run = begin(alloc, plan, case.length, layer, &journal)?;
     let mut text = String::new(alloc);
     put_frames(rt, alloc, plan, &mut run, &mut journal, &mut text)?;
-    assert_eq!(rt; text.as_str(), case.due.as_str(), "{}", case.journal.as_str());
+    assert_eq!(rt;
+        text.as_str(),
+        case.due.as_str(),
+        "{}",
+        case.journal.as_str()
+    );
     Ok(())
 }
 
@@ -271,6 +284,11 @@ pub fn check_votes<L: Layer + Drop>(
     run_all(rt, &mut run, &mut journal);
     let mut text = String::new(alloc);
     put_votes(alloc, plan, &run, &mut text)?;
-    assert_eq!(rt; text.as_str(), case.due.as_str(), "{}", case.journal.as_str());
+    assert_eq!(rt;
+        text.as_str(),
+        case.due.as_str(),
+        "{}",
+        case.journal.as_str()
+    );
     Ok(())
 }

@@ -235,7 +235,6 @@ replica 0 up slot 0 cells 5 working yes
 replica 1 up slot 0 cells 5 working yes
 replica 2 up slot 0 cells 5 working yes";
 
-
 /// What the replicas of the motor show before the first frame.
 pub const START: &str = "motor
 guard yes vote none
