@@ -30,7 +30,8 @@ form_of (word ∷ file ∷ []) =
 form_of (word ∷ file ∷ journal ∷ []) =
     if bytes_eq word (codes "ideal") then Some (Form.ideal file journal) else None
 form_of (word ∷ file ∷ journal ∷ last ∷ []) =
-    if bytes_eq word (codes "replay") && bytes_eq last (codes "rs") then Some (Form.replay file journal) else None
+    if bytes_eq word (codes "replay") && bytes_eq last (codes "rs")
+    then Some (Form.replay file journal) else None
 form_of _ = None
 
 -- the form that the code's value is

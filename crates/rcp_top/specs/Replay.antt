@@ -65,7 +65,8 @@ run_text plan recovery history =
 
 -- the text of the replicated system over a history, with this recovery length
 unfoldable pub replay_text : PlanParts → ℕ → History → List ℕ
-replay_text plan recovery history = count_line label.Recovery recovery ++ run_text plan recovery history
+replay_text plan recovery history =
+    count_line label.Recovery recovery ++ run_text plan recovery history
 
 -- how soon the vote pattern of a plan recovers
 abbrev pub recovery_of_plan : PlanParts → ℕ
@@ -83,5 +84,5 @@ pub record ShowsReplay (found : Replay) (text : List ℕ) : Type 0 where
   pub journal : IsJournalOf found.judged.plan found.journal
   pub some : 1 ≤ found.judged.length
   pub is :
-      text
-      ≡ replay_text found.judged.plan found.judged.length (history_in found.judged.plan found.journal)
+      let judged = found.judged in
+      text ≡ replay_text judged.plan judged.length (history_in judged.plan found.journal)
