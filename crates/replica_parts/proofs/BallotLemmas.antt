@@ -33,6 +33,10 @@ letter_at-is places i d lt = get_or-map letter_in places i d None lt
 pub message_at-is : (places : List Heard) (i : ℕ) (d : Heard) → i < length places → message_at places i ≡ message_in (get_or places i d)
 message_at-is places i d lt = get_or-map message_in places i d None lt
 
+-- what stands at a place that is read
+pub heard_here : (places : List Heard) (i : ℕ) (place : Heard) → i < length places → place ≡ get_or places i place → message_at places i ≡ message_in place
+heard_here places i place lt is = message_at-is places i place lt ∙ sym (ap message_in is)
+
 abs_of_pos : (o : Option ℕ) (own : ℕ) (x : ℤ) → option_map pos o ≡ Some x → nat_abs x ≡ unwrap_or o own
 abs_of_pos None own x e = absurd (none-some x e)
 abs_of_pos (Some n) own x e = ap nat_abs (sym (same_Some (pos n) x e))

@@ -5,5 +5,6 @@ mod LetterLemmas
 pub mod BallotLaws
 mod BallotLemmas
 mod ComputingLemmas
+mod OwnLemmas
 mod HoldingLemmas
 mod CommandLemmas

@@ -98,8 +98,8 @@ fn initial_cells(alloc: Global, cells: &[Variable]) -> Result<Vec<i64>, Memory>
     Ok(cells.iter().map(|cell| cell.initial).collect(alloc)?)
 }
 
-// Takes over the values of a list of the same length.
-fn copy_cells(cells: &mut Vec<i64>, other: &[i64])
+/// Takes over the values of a list of the same length. Takes no memory.
+pub(crate) fn copy_cells(cells: &mut Vec<i64>, other: &[i64])
     requires { length cells.old.items ≡ length other.now }
     ensures { cells.new.items ≡ other.now }
 {

@@ -2,6 +2,7 @@
 //! After NASA TM-102716 and NASA TM-104196; the code is this project's own.
 #![tactic(auto)]
 
+mod agreement;
 mod ballot;
 mod commanding;
 mod computing;

@@ -15,9 +15,10 @@ ghost use Rattle.replica_parts.specs.Rooms.{AreHeard, AreMessages, ArePostRows, 
 ghost use Rattle.replica_parts.specs.Setting.{HasPlan, HasPlanWith, IsSettingOf};
 ghost use Rattle.replica_parts.specs.States.{no_content, no_state};
 
+use crate::agreement::all_agree;
 use crate::ballot::{Ballot, Heard};
 use crate::hearing::hear_all;
-use crate::held::Held;
+use crate::held::{Held, copy_cells};
 use crate::post::Post;
 use crate::setting::{Setting, has_vote};
 use layer_stack::FrameIn;
@@ -206,6 +207,47 @@ pub fn vote(
 
 /// The vote of a replica over what stands heard in its ballot. Takes no memory.
 pub fn vote_heard(
+    setting: &Setting,
+    votes: &Pattern,
+    slot: u32,
+    computed: &[i64],
+    places: &mut Vec<Option<i64>>,
+    ballot: &mut Ballot,
+)
+    requires of { HasPlan setting.now }
+    requires computed { length computed.now ≡ setting.now.cells }
+    requires places { AreVotePlaces setting.now places.old.items }
+    requires room { HasBallotRoom setting.now ballot.old }
+    ensures ballot { (plan : PlanParts) → IsSettingOf plan setting.now → IsBallot plan.replicas
+        ballot.new (ballot_of plan (is_in votes.now) slot computed.now
+        (message_at ballot.old.heard.items)) }
+    ensures heard { ballot.new.heard ≡ ballot.old.heard }
+    ensures up { ballot.new.up ≡ true }
+    ensures places { AreVotePlaces setting.now places.new.items }
+    ensures room { HasBallotRoom setting.now ballot.new }
+{
+    if all_agree(setting, ballot.heard.as_slice(), slot, computed) {
+        keep_own(slot, computed, ballot);
+    } else {
+        take_votes(setting, votes, slot, computed, places, ballot);
+    }
+}
+
+// Takes one's own slot and computed cells.
+fn keep_own(slot: u32, computed: &[i64], ballot: &mut Ballot)
+    requires { length ballot.old.cells.items ≡ length computed.now }
+    ensures heard { ballot.new.heard ≡ ballot.old.heard }
+    ensures taken { ballot.new.taken ≡ slot }
+    ensures cells { ballot.new.cells.items ≡ computed.now }
+    ensures up { ballot.new.up ≡ true }
+{
+    ballot.taken = slot;
+    copy_cells(&mut ballot.cells, computed);
+    ballot.up = true;
+}
+
+// Takes the slot and the cells that are voted.
+fn take_votes(
     setting: &Setting,
     votes: &Pattern,
     slot: u32,

@@ -1,13 +1,16 @@
-use Rattle.rcp_model.specs.Ballot.{voted_cells, taken_slot}
-use Rattle.replica_parts.proofs.BallotLemmas.{ballot_over}
-use Rattle.replica_parts.specs.Places.{message_at}
+use Rattle.replica_parts.proofs.OwnLemmas.{own_ballot}
 use Rattle.replica_parts.specs.declared.ballot.Heard.{Heard}
-use Rattle.std.proofs.Common.{ap, List, ◌∙◌}
+use Rattle.replica_parts.specs.inner.Agreement.{Agrees}
+use Rattle.replica_parts.specs.Places.{message_at}
+use Rattle.std.proofs.Common.{List, Vec, ap, subst, sym, ◌∙◌}
+use Rattle.std.specs.Global.{Global}
+use Rattle.std.specs.Prelude.{IfSome}
 use Rattle.vote_pattern.specs.Votes.{is_in}
 use Rattle.replica_parts.proofs.voting.vote_heard.Goals as goal
 
-pub returns-clause-ballot : goal.returns-clause-ballot
-returns-clause-ballot c = λ plan s.
-    ballot_over plan (is_in c.args.votes.now) c.args.slot c.args.computed.now _ c.args.setting.now.replicas s.replicas c.requires.room.heard.size
-    (c.take_slot-ballot.ensures.taken plan s ∙ ap (λ (xs : List Heard). taken_slot plan c.args.slot (message_at xs)) c.as_slice.ensures.value)
-    (c.vote_cells.ensures.cells plan s ∙ ap (λ (xs : List Heard). voted_cells plan (is_in c.args.votes.now) c.take_slot-ballot.result (message_at xs) c.args.computed.now) c.as_slice-2.ensures.value)
+pub returns-then-all_agree-clause-ballot : goal.returns-then-all_agree-clause-ballot
+returns-then-all_agree-clause-ballot c = λ plan s.
+    own_ballot plan (is_in c.args.votes.now) c.args.slot c.args.computed.now c.keep_own.new.ballot c.args.ballot.now.heard.items c.args.setting.now.replicas
+    s.replicas c.requires.room.heard.size (sym (ap (λ (v : Vec Heard Global). v.items) c.keep_own.ensures.heard)) (c.requires.computed ∙ s.cells)
+    (λ sender lt. subst (λ (xs : List Heard). IfSome (message_at xs sender) (Agrees c.args.slot c.args.computed.now)) c.as_slice.ensures.value (c.all_agree.ensures.0 c.if-all_agree.true sender lt))
+    c.keep_own.ensures.taken c.keep_own.ensures.cells
