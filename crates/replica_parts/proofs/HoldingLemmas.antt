@@ -14,7 +14,7 @@ use Rattle.replica_parts.specs.declared.ballot.Ballot.{Ballot}
 use Rattle.replica_parts.specs.Ballots.{IsBallotOrNone}
 use Rattle.replica_parts.specs.States.{state_after_vote}
 
-same_held : (s t : ℕ) (v w : List ℤ) → s ≡ t → v ≡ w → ◌≡◌ {A = ProcessorState} (record { slot = s; cells = v }) (record { slot = t; cells = w })
+pub same_held : (s t : ℕ) (v w : List ℤ) → s ≡ t → v ≡ w → ◌≡◌ {A = ProcessorState} (record { slot = s; cells = v }) (record { slot = t; cells = w })
 same_held s t v w e f = cc
 
 pub is_overwritten : (plan : PlanParts) (rows : FrameRows) (replica : ℕ) (held begun now : ProcessorState) (n i : ℕ)

@@ -8,7 +8,7 @@ use Rattle.rcp_model.specs.Messages.{message_to}
 use Rattle.rcp_base.proofs.FillLaws.{filled_all}
 use Rattle.rcp_base.specs.Filling.{Filled}
 
-same_content : (s t : ℕ) (v w : List (Option ℤ)) → s ≡ t → v ≡ w → ◌≡◌ {A = Content} (record { slot = s; values = v }) (record { slot = t; values = w })
+pub same_content : (s t : ℕ) (v w : List (Option ℤ)) → s ≡ t → v ≡ w → ◌≡◌ {A = Content} (record { slot = s; values = v }) (record { slot = t; values = w })
 same_content s t v w e f = cc
 
 -- a message that begins as one's own with the slot of a row, and has each value of a row, is the message as the rows have it

@@ -7,4 +7,5 @@ mod BallotLemmas
 mod ComputingLemmas
 mod OwnLemmas
 mod HoldingLemmas
+mod QuietLemmas
 mod CommandLemmas

@@ -68,7 +68,9 @@ pub fn hold_one(setting: &Setting, input: &FrameIn, replica: u32, ballot: &Ballo
     ensures cells { HasCells setting.now held.new }
 {
     sync(setting, ballot, held);
-    overwrite(setting, input, replica, held);
+    if !input.is_quiet() {
+        overwrite(setting, input, replica, held);
+    }
 }
 
 /// What each replica holds after them. Takes no memory.

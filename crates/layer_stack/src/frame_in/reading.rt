@@ -1,7 +1,8 @@
 //! What the rows of a frame say.
 //! This project's own.
-ghost use Rattle.std.specs.Prelude.{◌≡◌, ◌<◌, length};
+ghost use Rattle.std.specs.Prelude.{◌≡◌, ◌<◌, IsTrue, length};
 ghost use Rattle.rcp_model.specs.FrameRows.{is_down, slot_row, cell_row, act_row, lie_row, lie_slot_row, is_dropped, skew_of, rate_of, delay_of};
+ghost use Rattle.rcp_model.specs.RowWrites.{cleared};
 
 use super::FrameIn;
 
@@ -25,6 +26,13 @@ impl FrameIn {
         ensures { result.now ≡ self.now.sensors }
     {
         self.sensors.as_slice()
+    }
+
+    /// Whether nothing but sensors was written in this frame. `false` also where what was written changes nothing.
+    pub fn is_quiet(&self) -> bool
+        ensures { IsTrue result → self.now ≡ cleared self.now }
+    {
+        !self.written
     }
 
     /// Whether a row takes the replica down.
