@@ -1,14 +1,14 @@
 //! When letters arrive, and what a replica hears.
 //! After NASA TM-104196.
-ghost use Rattle.std.specs.Prelude.{◌≡◌, ◌<◌, ◌≤◌, true, length, Some, None, if◌then◌else◌};
+ghost use Rattle.std.specs.Prelude.{◌≡◌, ◌<◌, ◌≤◌, ◌==◌, ℕ, true, length, Some, None, if◌then◌else◌};
 ghost use Rattle.rcp_base.specs.declared.TheConstants.{MAX_FRAMES};
 ghost use Rattle.rcp_base.specs.Tables.{table};
 ghost use Rattle.rcp_model.specs.declared.plan.PlanParts.{PlanParts};
-ghost use Rattle.rcp_model.specs.FrameRows.{skew_of, rate_of};
-ghost use Rattle.rcp_model.specs.Moments as moments;
+ghost use Rattle.rcp_model.specs.FrameRows.{FrameRows};
 ghost use Rattle.rcp_model.specs.Messages as messages;
 ghost use Rattle.rcp_model.specs.Messages.{heard_message, in_time};
 ghost use Rattle.replica_parts.specs.Ballots.{heard_by};
+ghost use Rattle.replica_parts.specs.inner.Windows.{IsWindowOf};
 ghost use Rattle.replica_parts.specs.Places.{letter_at, letter_in, message_in, messages_in};
 ghost use Rattle.replica_parts.specs.Rooms.{AreHeard, ArePosts, HasRoom, IsHeard, IsPost};
 ghost use Rattle.replica_parts.specs.Setting.{IsSettingOf, HasPlanWith};
@@ -16,7 +16,8 @@ ghost use Rattle.replica_parts.specs.Setting.{IsSettingOf, HasPlanWith};
 use crate::ballot::Heard;
 use crate::post::Post;
 use crate::setting::Setting;
-use clock_model::{arrival, in_window, send};
+use crate::window::Window;
+use clock_model::{arrival, send};
 use layer_stack::FrameIn;
 use mailbox::Message;
 
@@ -37,25 +38,6 @@ pub fn arrival_of(setting: &Setting, frame: u32, input: &FrameIn, sender: u32, r
         input.rate(sender),
     );
     arrival(sent, input.delay(sender, receiver))
-}
-
-// Whether a tick is in the receiver's window of a frame.
-#[tactic(auto, using(crate::proofs::SettingLemmas::clock_of))]
-fn is_in_window(setting: &Setting, frame: u32, input: &FrameIn, receiver: u32, tick: i64) -> bool
-    requires of { HasPlanWith setting.now input.now }
-    requires frame { frame ≤ MAX_FRAMES }
-    requires receiver { receiver < setting.now.replicas }
-    ensures { (plan : PlanParts) → IsSettingOf plan setting.now
-        → result ≡ moments.is_in_window plan.timing frame
-        (skew_of input.now receiver) (rate_of input.now receiver) tick }
-{
-    in_window(
-        &setting.timing,
-        frame,
-        input.skew(receiver),
-        input.rate(receiver),
-        tick,
-    )
 }
 
 /// Puts what a receiver hears of a sender into a place: its own message, or the letter of this frame,
@@ -84,11 +66,35 @@ pub fn hear(
         own.now (letter_in fresh.now) (letter_in late.now) }
     ensures room { IsHeard setting.now place.new }
 {
-    if sender == receiver {
+    let window = Window::new(setting, frame, input, receiver);
+    hear_in(&window, sender == receiver, own, fresh, late, place);
+}
+
+// Puts what is heard in a window into a place: one's own message where one is the sender, or the letter of this frame,
+// or the one of the frame before.
+#[tactic(auto, unfolding(rcp_model::specs::Messages::heard_message))]
+fn hear_in(
+    window: &Window,
+    is_own: bool,
+    own: &Message,
+    fresh: &Post,
+    late: &Post,
+    place: &mut Heard,
+)
+    requires own { length place.old.message.values ≡ length own.now.values }
+    requires fresh { length place.old.message.values ≡ length fresh.now.message.values }
+    requires late { length place.old.message.values ≡ length late.now.message.values }
+    ensures heard { (plan : PlanParts) (frame : ℕ) (rows : FrameRows) (receiver sender : ℕ)
+        → IsWindowOf plan frame rows receiver window.now → is_own ≡ (sender == receiver)
+        → message_in place.new ≡ heard_message plan frame rows receiver sender
+        own.now (letter_in fresh.now) (letter_in late.now) }
+    ensures room { length place.new.message.values ≡ length place.old.message.values }
+{
+    if is_own {
         take_message(own, place);
-    } else if comes(setting, frame, input, receiver, fresh) {
+    } else if comes(window, fresh) {
         take_message(&fresh.message, place);
-    } else if comes(setting, frame, input, receiver, late) {
+    } else if comes(window, late) {
         take_message(&late.message, place);
     } else {
         place.present = false;
@@ -105,16 +111,14 @@ pub fn take_message(message: &Message, place: &mut Heard)
     place.present = true;
 }
 
-// Whether a letter arrives in the receiver's window of a frame.
-fn comes(setting: &Setting, frame: u32, input: &FrameIn, receiver: u32, place: &Post) -> bool
-    requires of { HasPlanWith setting.now input.now }
-    requires frame { frame ≤ MAX_FRAMES }
-    requires receiver { receiver < setting.now.replicas }
-    ensures { (plan : PlanParts) → IsSettingOf plan setting.now
-        → in_time plan frame input.now receiver (letter_in place.now)
+// Whether a letter arrives in a window.
+fn comes(window: &Window, place: &Post) -> bool
+    ensures { (plan : PlanParts) (frame : ℕ) (rows : FrameRows) (receiver : ℕ)
+        → IsWindowOf plan frame rows receiver window.now
+        → in_time plan frame rows receiver (letter_in place.now)
         ≡ (if result then Some place.now.message else None) }
 {
-    place.present && is_in_window(setting, frame, input, receiver, place.arrival)
+    place.present && window.has(place.arrival)
 }
 
 /// Puts what a receiver hears of each sender into its places. Takes no memory.
@@ -141,14 +145,12 @@ pub fn hear_all(
         (letter_at fresh.now) (letter_at late.now)) }
     ensures room { AreHeard setting.now places.new.items }
 {
+    let window = Window::new(setting, frame, input, receiver);
     for sender in 0..setting.replicas {
         let number = sender as usize;
-        hear(
-            setting,
-            frame,
-            input,
-            receiver,
-            sender,
+        hear_in(
+            &window,
+            sender == receiver,
             own,
             &fresh[number],
             &late[number],

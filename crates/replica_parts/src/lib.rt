@@ -16,6 +16,7 @@ mod making;
 mod post;
 mod setting;
 mod voting;
+mod window;
 
 pub use ballot::{Ballot, Heard};
 pub use commanding::{command_all, command_at, command_one, command_row, evaluated};
