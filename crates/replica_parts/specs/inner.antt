@@ -2,3 +2,4 @@
 pub mod Slots
 pub mod Agreement
 pub mod Windows
+pub mod Arrivals

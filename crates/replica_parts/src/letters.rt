@@ -1,6 +1,6 @@
 //! What goes out in a frame.
 //! After NASA TM-104196.
-ghost use Rattle.std.specs.Prelude.{◌≡◌, ◌<◌, ◌≤◌, length, set, slice_index_or, unwrap_or};
+ghost use Rattle.std.specs.Prelude.{◌≡◌, ◌<◌, ◌≤◌, IfSome, None, Some, length, set, slice_index_or, unwrap_or, if◌then◌else◌};
 ghost use Rattle.std.specs.Option.{option_or};
 ghost use Rattle.rcp_base.specs.declared.TheConstants.{MAX_FRAMES};
 ghost use Rattle.rcp_base.specs.Message.{value_in};
@@ -8,6 +8,7 @@ ghost use Rattle.rcp_base.specs.Tables.{table};
 ghost use Rattle.rcp_model.specs.declared.plan.PlanParts.{PlanParts};
 ghost use Rattle.rcp_model.specs.Messages.{letter_to, message_to};
 ghost use Rattle.rcp_model.specs.Messages as messages;
+ghost use Rattle.replica_parts.specs.inner.Arrivals.{IsQuietArrival};
 ghost use Rattle.replica_parts.specs.Places.{letter_in, letters_in, letter_rows};
 ghost use Rattle.replica_parts.specs.Rooms.{AreMessages, ArePostRows, ArePosts, HasRoom, IsPost};
 ghost use Rattle.replica_parts.specs.Setting.{HasPlanWith, IsSettingOf};
@@ -45,6 +46,61 @@ pub fn write_letter(
         place.present = true;
     } else {
         place.present = false;
+    }
+}
+
+// The tick at which all letters of a frame arrive, if only sensors were written.
+fn quiet_arrival(setting: &Setting, frame: u32, input: &FrameIn) -> Option<i64>
+    requires of { HasPlanWith setting.now input.now }
+    requires frame { frame ≤ MAX_FRAMES }
+    ensures { IfSome result (IsQuietArrival setting.now frame input.now) }
+{
+    if input.is_quiet() {
+        Some(arrival_of(setting, frame, input, 0, 0))
+    } else {
+        None
+    }
+}
+
+// Puts a letter as `write_letter` does, with the tick at which all arrive where there is one.
+fn put_letter(
+    setting: &Setting,
+    frame: u32,
+    input: &FrameIn,
+    arrival: Option<i64>,
+    own: &Message,
+    sender: u32,
+    receiver: u32,
+    place: &mut Post,
+)
+    requires of { HasPlanWith setting.now input.now }
+    requires frame { frame ≤ MAX_FRAMES }
+    requires arrival { IfSome arrival (IsQuietArrival setting.now frame input.now) }
+    requires sender { sender < setting.now.replicas }
+    requires receiver { receiver < setting.now.replicas }
+    requires own { HasRoom setting.now own.now }
+    requires room { IsPost setting.now place.old }
+    ensures letter { (plan : PlanParts) → IsSettingOf plan setting.now
+        → letter_in place.new ≡ letter_to plan frame input.now own.now sender receiver }
+    ensures room { IsPost setting.now place.new }
+{
+    match arrival {
+        Some(tick) => put_message(tick, own, sender != receiver, place),
+        None => write_letter(setting, frame, input, own, sender, receiver, place),
+    }
+}
+
+// Puts a message that goes to another into a place, and none where it goes to oneself.
+fn put_message(arrival: i64, own: &Message, to_another: bool, place: &mut Post)
+    requires { length place.old.message.values ≡ length own.now.values }
+    ensures letter { letter_in place.new
+        ≡ (if to_another then Some (record { arrival = arrival; message = own.now }) else None) }
+    ensures room { length place.new.message.values ≡ length place.old.message.values }
+{
+    place.present = to_another;
+    if to_another {
+        place.arrival = arrival;
+        place.message.copy_from(own);
     }
 }
 
@@ -129,12 +185,38 @@ pub fn write_row(
         (slice_index_or own.now sender no_content) sender receiver) }
     ensures room { ArePosts setting.now row.new.items }
 {
+    let arrival = quiet_arrival(setting, frame, input);
+    put_row(setting, frame, input, arrival, own, receiver, row);
+}
+
+// The same, with the tick at which all arrive where there is one.
+fn put_row(
+    setting: &Setting,
+    frame: u32,
+    input: &FrameIn,
+    arrival: Option<i64>,
+    own: &[Message],
+    receiver: u32,
+    row: &mut Vec<Post>,
+)
+    requires of { HasPlanWith setting.now input.now }
+    requires frame { frame ≤ MAX_FRAMES }
+    requires arrival { IfSome arrival (IsQuietArrival setting.now frame input.now) }
+    requires receiver { receiver < setting.now.replicas }
+    requires own { AreMessages setting.now own.now }
+    requires room { ArePosts setting.now row.old.items }
+    ensures letters { (plan : PlanParts) → IsSettingOf plan setting.now
+        → letters_in row.new.items ≡ table plan.replicas (λ sender. letter_to plan frame input.now
+        (slice_index_or own.now sender no_content) sender receiver) }
+    ensures room { ArePosts setting.now row.new.items }
+{
     for sender in 0..setting.replicas {
         let number = sender as usize;
-        write_letter(
+        put_letter(
             setting,
             frame,
             input,
+            arrival,
             &own[number],
             sender,
             receiver,
@@ -161,11 +243,13 @@ pub fn write_rows(
         (slice_index_or own.now sender no_content) sender receiver)) }
     ensures room { ArePostRows setting.now rows.new.items }
 {
+    let arrival = quiet_arrival(setting, frame, input);
     for receiver in 0..setting.replicas {
-        write_row(
+        put_row(
             setting,
             frame,
             input,
+            arrival,
             own,
             receiver,
             &mut rows[receiver as usize],

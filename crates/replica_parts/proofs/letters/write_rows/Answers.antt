@@ -12,8 +12,8 @@ use Rattle.replica_parts.proofs.letters.write_rows.Goals as goal
 
 pub loop-receiver-preserved : goal.loop-receiver-preserved
 loop-receiver-preserved c = record {
-  letters = λ plan s. filled_seen (λ (row : Vec Post Global). letters_in row.items) _ _ [] _ _ c.loop-receiver.receiver c.write_row.new.row (c.loop-receiver.invariant.letters plan s) c.loop-receiver-test.true (c.write_row.ensures.letters plan s);
-  room = each_set c.args.setting.now.replicas (λ (row : Vec Post Global). ArePosts c.args.setting.now row.items) c.loop-receiver.rows.items c.loop-receiver.receiver c.write_row.new.row c.loop-receiver.invariant.room c.write_row.ensures.room;
+  letters = λ plan s. filled_seen (λ (row : Vec Post Global). letters_in row.items) _ _ [] _ _ c.loop-receiver.receiver c.put_row.new.row (c.loop-receiver.invariant.letters plan s) c.loop-receiver-test.true (c.put_row.ensures.letters plan s);
+  room = each_set c.args.setting.now.replicas (λ (row : Vec Post Global). ArePosts c.args.setting.now row.items) c.loop-receiver.rows.items c.loop-receiver.receiver c.put_row.new.row c.loop-receiver.invariant.room c.put_row.ensures.room;
 }
 
 pub returns-clause-letters : goal.returns-clause-letters

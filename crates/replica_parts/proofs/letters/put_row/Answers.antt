@@ -8,14 +8,14 @@ use Rattle.replica_parts.specs.Rooms.{IsPost}
 use Rattle.replica_parts.specs.States.{no_content}
 use Rattle.std.proofs.Common.{None, ap, arith, get_or, ℕ, ◌∙◌}
 use Rattle.std.proofs.lemmas.List.{get_or_read}
-use Rattle.replica_parts.proofs.letters.write_row.Goals as goal
+use Rattle.replica_parts.proofs.letters.put_row.Goals as goal
 
 pub loop-sender-preserved : goal.loop-sender-preserved
 loop-sender-preserved c = record {
   letters = λ plan s. filled_seen letter_in _ _ None _ _ c.loop-sender.sender _ (c.loop-sender.invariant.letters plan s) c.loop-sender-test.true
-      (c.write_letter.ensures.letter plan s ∙ ap (λ (m : Content). letter_to plan c.args.frame c.args.input.now m c.loop-sender.sender c.args.receiver)
+      (c.put_letter.ensures.letter plan s ∙ ap (λ (m : Content). letter_to plan c.args.frame c.args.input.now m c.loop-sender.sender c.args.receiver)
       (get_or_read c.args.own.now c.loop-sender.sender c.index-own-number.result (omega (arith, c.loop-sender-test.true, c.requires.own.size)) c.index-own-number.is no_content));
-  room = each_set c.args.setting.now.replicas (IsPost c.args.setting.now) c.loop-sender.row.items c.loop-sender.sender c.write_letter.new.place c.loop-sender.invariant.room c.write_letter.ensures.room;
+  room = each_set c.args.setting.now.replicas (IsPost c.args.setting.now) c.loop-sender.row.items c.loop-sender.sender c.put_letter.new.place c.loop-sender.invariant.room c.put_letter.ensures.room;
 }
 
 pub returns-clause-letters : goal.returns-clause-letters

@@ -6,7 +6,7 @@ use Rattle.replica_parts.specs.Rooms.{ArePosts}
 use Rattle.replica_parts.specs.Setting.{IsSettingOf}
 use Rattle.replica_parts.specs.States.{no_content}
 use Rattle.std.proofs.Common.{None, get_or, ℕ}
-use Rattle.replica_parts.proofs.letters.write_row.Given as goal
+use Rattle.replica_parts.proofs.letters.put_row.Given as goal
 
 abbrev pub invariant-loop-sender : goal.invariant-loop-sender
 invariant-loop-sender l = record {
