@@ -125,9 +125,7 @@ fn write_message(input: &FrameIn, own: &Message, sender: u32, receiver: u32, mes
     ensures room { length message.new.values ≡ input.now.cells }
 {
     message.copy_from(own);
-    if !input.is_quiet() {
-        shade(message, input, sender, receiver);
-    }
+    shade(message, input, sender, receiver);
 }
 
 /// Changes a message as the rows have it for one receiver. Takes no memory.

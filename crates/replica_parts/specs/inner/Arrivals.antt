@@ -8,6 +8,8 @@ use Rattle.replica_parts.specs.declared.setting.Setting.{Setting}
 use Rattle.replica_parts.specs.Setting.{IsSettingOf}
 
 -- only sensors were written in a frame, and this is the tick at which its letters arrive
-pub record IsQuietArrival (setting : Setting) (frame : ℕ) (rows : FrameRows) (arrival : ℤ) : Type 0 where
+pub record IsQuietArrival (setting : Setting) (frame : ℕ) (rows : FrameRows) (arrival : ℤ)
+    : Type 0 where
   pub quiet : rows ≡ cleared rows
-  pub arrives : (plan : PlanParts) → IsSettingOf plan setting → arrival ≡ arrival_of plan frame rows 0 0
+  pub arrives : (plan : PlanParts) → IsSettingOf plan setting
+      → arrival ≡ arrival_of plan frame rows 0 0

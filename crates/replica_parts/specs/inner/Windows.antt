@@ -6,6 +6,9 @@ use Rattle.rcp_model.specs.Moments.{begin_tick, vote_tick}
 use Rattle.replica_parts.specs.declared.window.Window.{Window}
 
 -- a window is that of a receiver in a frame
-pub record IsWindowOf (plan : PlanParts) (frame : ℕ) (rows : FrameRows) (receiver : ℕ) (window : Window) : Type 0 where
+pub record IsWindowOf
+    (plan : PlanParts) (frame : ℕ) (rows : FrameRows) (receiver : ℕ) (window : Window)
+    : Type 0 where
   pub opens : window.opens ≡ begin_tick plan.timing frame (skew_of rows receiver)
-  pub closes : window.closes ≡ vote_tick plan.timing frame (skew_of rows receiver) (rate_of rows receiver)
+  pub closes : window.closes
+      ≡ vote_tick plan.timing frame (skew_of rows receiver) (rate_of rows receiver)
