@@ -36,7 +36,23 @@ walk -
 ! write 3 after 5
 frame 0
 vote motor 10
-> ideal";
+> ideal
+
+6 motor replay T J rs
+! read 1
+unreadable: T
+
+6 motor replay T J rs
+! read 2
+unreadable: J
+
+7 motor replay T J rs
+: 0,sensor,cmd,10,,
+: 4,end,,,,
+! write 3 after 3
+recovery 3
+frame 0 guard yes
+> vot";
 
 const COUNTED: &str = "frame 0
 vote out 1
