@@ -55,17 +55,17 @@ guard_told plan recovery past told is =
     grind (arith, is, tested)
 
 -- the frame after t frames, where it is there, and all up to it
-pub past_at : (history : History) (t : ℕ) (d : FrameRows) → t < length history → past_of history (t + 1) ≡ get_or history t d ∷ past_of history t
+past_at : (history : History) (t : ℕ) (d : FrameRows) → t < length history → past_of history (t + 1) ≡ get_or history t d ∷ past_of history t
 past_at history t d lt = ap reverse (take_more history t d lt) ∙ reverse-append (take t history) (get_or history t d ∷ [])
 
-pub past_length : (history : History) (t : ℕ) → t ≤ length history → length (past_of history t) ≡ t
+past_length : (history : History) (t : ℕ) → t ≤ length history → length (past_of history t) ≡ t
 past_length history t le = length-reverse (take t history) ∙ length-take-le t history le
 
 -- what is to be written after t frames
 abbrev pub rest_of_run : PlanParts → ℕ → History → ℕ → List ℕ
 rest_of_run plan recovery history t = replay_frames_text plan recovery (past_of history t) (drop t history) ++ count_line label.End (length history)
 
-pub run_at : (plan : PlanParts) (recovery : ℕ) (history : History) (t : ℕ) (d : FrameRows) → t < length history
+run_at : (plan : PlanParts) (recovery : ℕ) (history : History) (t : ℕ) (d : FrameRows) → t < length history
     → rest_of_run plan recovery history t ≡ replay_frame_text plan recovery (get_or history t d) (past_of history t) ++ rest_of_run plan recovery history (t + 1)
 unfolding replay_frames_text
 run_at plan recovery history t d lt =
@@ -82,29 +82,32 @@ unfolding replay_frames_text
 run_at_end plan recovery history t le =
     ap (λ frames. replay_frames_text plan recovery (past_of history t) frames ++ count_line label.End (length history)) (drop_all t history le)
 
--- one frame more was written
-pub run_more : {T U : Type 0} {a b : SinkState} {r : Result T WriteError} {whole : List ℕ} (plan : PlanParts) (recovery : ℕ) (history : History) (t : ℕ) (d : FrameRows)
-    (c : SinkState) (s : Result U WriteError) → t < length history → IsHalfway a b r (rest_of_run plan recovery history t) whole
-    → Adds b c r s (replay_frame_text plan recovery (get_or history t d) (past_of history t)) → IsHalfway a c s (rest_of_run plan recovery history (t + 1)) whole
-run_more plan recovery history t d c s lt so_far adds =
-    halfway_more c s (replay_frame_text plan recovery (get_or history t d) (past_of history t)) (rest_of_run plan recovery history (t + 1))
-    (halfway_as _ _ (run_at plan recovery history t d lt) so_far) adds
-
--- a run of the plan can run its next frame
-pub can_run_next : {L : Type 0} (at : L → PlanParts → SystemState → Type 0) (plan : PlanParts) (run : Run L) (history : History) (n t : ℕ)
-    → run.plan.now ≡ plan → n ≡ t → t < length history → IsHistoryOf plan history → StandsFor at run (past_of history t) → CanRun at run history n 1
-can_run_next at plan run history n t same there more are stands =
+-- a run that stands for t frames can run the next one, and then stands for it
+pub stands_next : {L : Type 0} (at : L → PlanParts → SystemState → Type 0) (plan : PlanParts) (old new : Run L) (history : History) (before after t : ℕ)
+    → old.plan.now ≡ plan → before ≡ t → after ≡ t + 1 → t < length history → IsHistoryOf plan history → StandsFor at old (past_of history t)
+    → (CanRun at old history before 1 → StandsFor at new (past_of history after)) → StandsFor at new (past_of history (t + 1))
+stands_next at plan old new history before after t same was is more are stands ran =
     let OfPlan : PlanParts → Type 0 = λ p. IsHistoryOf p history in
-    let Stands : ℕ → Type 0 = λ k. StandsFor at run (past_of history k) in
-    record { of_plan = subst OfPlan (sym same) are; more = omega (arith, there, more); stands = subst Stands (sym there) stands }
+    let Old : ℕ → Type 0 = λ k. StandsFor at old (past_of history k) in
+    let New : ℕ → Type 0 = λ k. StandsFor at new (past_of history k) in
+    let can : CanRun at old history before 1 =
+    record { of_plan = subst OfPlan (sym same) are; more = omega (arith, was, more); stands = subst Old (sym was) stands } in
+    subst New is (ran can)
 
--- and stands for it
-pub stands_next : {L : Type 0} (at : L → PlanParts → SystemState → Type 0) (run : Run L) (history : History) (n t : ℕ) (d : FrameRows)
-    → n ≡ t + 1 → t < length history → StandsFor at run (past_of history n) → StandsFor at run (get_or history t d ∷ past_of history t)
-stands_next at run history n t d there lt stands =
-    let Stands : ℕ → Type 0 = λ k. StandsFor at run (past_of history k) in
-    let P : List FrameRows → Type 0 = λ past. StandsFor at run past in
-    subst P (past_at history t d lt) (subst Stands there stands)
+-- the lines of the frame for which it then stands were written
+pub frame_written : {L T U : Type 0} {a b : SinkState} {r : Result T WriteError} {whole : List ℕ} (at : L → PlanParts → SystemState → Type 0)
+    (plan : PlanParts) (run : Run L) (history : History) (t length_of_run recovery : ℕ) (d : FrameRows) (c : SinkState) (s : Result U WriteError)
+    → length_of_run ≡ recovery → t < length history → StandsFor at run (past_of history (t + 1)) → IsHalfway a b r (rest_of_run plan recovery history t) whole
+    → ((rows : FrameRows) (past : List FrameRows) → StandsFor at run (rows ∷ past) → t ≡ length past → Adds b c r s (replay_frame_text plan length_of_run rows past))
+    → IsHalfway a c s (rest_of_run plan recovery history (t + 1)) whole
+frame_written {U = U} {b = b} {r = r} at plan run history t length_of_run recovery d c s same more stands so_far adds =
+    let rows = get_or history t d in
+    let past = past_of history t in
+    let Stands : List FrameRows → Type 0 = λ frames. StandsFor at run frames in
+    let P : ℕ → Type 0 = λ k. Adds {U = U} b c r s (replay_frame_text plan k rows past) in
+    halfway_more c s (replay_frame_text plan recovery rows past) (rest_of_run plan recovery history (t + 1))
+    (halfway_as _ _ (run_at plan recovery history t d more) so_far)
+    (subst P same (adds rows past (subst Stands (past_at history t d more) stands) (sym (past_length history t (omega (arith, more))))))
 
 -- where the layer of a run of the plan is
 pub at_of_run : {L : Type 0} (at : L → PlanParts → SystemState → Type 0) (plan : PlanParts) (run : Run L) (layer : L) (past : List FrameRows)

@@ -1,5 +1,5 @@
 -- What the run and its layer tell of a replica is what it holds.
-use Rattle.std.proofs.Common.{◌≡◌, ◌∷◌, length, ap, ◌∙◌}
+use Rattle.std.proofs.Common.{◌≡◌, ◌∷◌, length, ap, ◌∙◌, subst}
 use Rattle.rcp_model.specs.declared.plan.PlanParts.{PlanParts}
 use Rattle.rcp_model.specs.Health.{is_working}
 use Rattle.rcp_model.specs.System.{state_after}
@@ -14,7 +14,8 @@ returns g c rows past stands =
     let now = rows ∷ past in
     let state = state_after plan now in
     let at = at_of_run {L = g.row.L.Denot} g.L.Layer.is_at plan run c.layer-layer.result.now now c.requires.plan c.layer-layer.ensures stands in
-    let count : c.len-count.result ≡ length plan.cells = c.len-count.ensures ∙ ap (λ (parts : PlanParts). length parts.cells) c.parts.ensures.parts in
+    let Counts : PlanParts → Type 0 = λ parts. c.len-count.result ≡ length parts.cells in
+    let count = subst Counts c.parts.ensures.parts c.len-count.ensures in
     let cells = told_cells plan now replica c.len-count.result _ count (c.cells_of-cells.ensures plan state at c.requires.replica count) in
     let working = c.working-working.ensures now stands ∙ ap (λ (p : PlanParts). is_working p run.length now replica) c.requires.plan in
     let line =
