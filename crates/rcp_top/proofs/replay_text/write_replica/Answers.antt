@@ -1,5 +1,5 @@
 -- What the run and its layer tell of a replica is what it holds.
-use Rattle.std.proofs.Common.{◌≡◌, ◌∷◌, length, ap, ◌∙◌, subst}
+use Rattle.std.proofs.Common.{◌≡◌, ◌∷◌, length, ◌∙◌, subst}
 use Rattle.rcp_model.specs.declared.plan.PlanParts.{PlanParts}
 use Rattle.rcp_model.specs.Health.{is_working}
 use Rattle.rcp_model.specs.System.{state_after}
@@ -17,7 +17,8 @@ returns g c rows past stands =
     let Counts : PlanParts → Type 0 = λ parts. c.len-count.result ≡ length parts.cells in
     let count = subst Counts c.parts.ensures.parts c.len-count.ensures in
     let cells = told_cells plan now replica c.len-count.result _ count (c.cells_of-cells.ensures plan state at c.requires.replica count) in
-    let working = c.working-working.ensures now stands ∙ ap (λ (p : PlanParts). is_working p run.length now replica) c.requires.plan in
+    let Works : PlanParts → Type 0 = λ p. c.working-working.result ≡ is_working p run.length now replica in
+    let working = subst Works c.requires.plan (c.working-working.ensures now stands) in
     let line =
     held_line_is plan run.length rows past replica _ _ _ _ (c.is_down-down.ensures now stands) (c.slot.ensures plan state at c.requires.replica) cells working in
     rw (c.replica.ensures ∙ line) at c.add.ensures
