@@ -2,3 +2,4 @@ mod DriftLemmas
 mod MomentsLemmas
 pub mod HealthLaws
 mod WindowLemmas
+mod OrderLemmas

@@ -13,14 +13,14 @@ use Rattle.rcp_model.proofs.RoundingLaws.{parts_rounded}
 use Rattle.clock_model.specs.Laws.{ArrivesInTime, HealthyPairsHear}
 use Rattle.clock_model.proofs.HealthLaws.{SendsRight, IsHealthy, healthy_facts}
 
-le_of : (a b : ℤ) → int_le a b ≡ true → a ≤ℤ b
+pub le_of : (a b : ℤ) → int_le a b ≡ true → a ≤ℤ b
 le_of a b h = grind (arith, ints)
 
 of_le : (a b : ℤ) → a ≤ℤ b → int_le a b ≡ true
 of_le a b h = grind (arith, ints)
 
 -- a product with a number within a bound is within the product with the bound
-product_within : (x d r : ℤ) → pos 0 ≤ℤ x → pos 0 ≤ℤ d → neg_ℤ d ≤ℤ r → r ≤ℤ d → (neg_ℤ (x *ℤ d) ≤ℤ (x *ℤ r)) × ((x *ℤ r) ≤ℤ (x *ℤ d))
+pub product_within : (x d r : ℤ) → pos 0 ≤ℤ x → pos 0 ≤ℤ d → neg_ℤ d ≤ℤ r → r ≤ℤ d → (neg_ℤ (x *ℤ d) ≤ℤ (x *ℤ r)) × ((x *ℤ r) ≤ℤ (x *ℤ d))
 product_within (negsuc n) d r h k low high = absurd (omega (arith, ints))
 product_within (pos n) (negsuc m) r h k low high = absurd (omega (arith, ints))
 product_within (pos n) (pos m) (pos a) h k low high =
@@ -31,7 +31,7 @@ product_within (pos n) (pos m) (negsuc b) h k low high =
     (omega (arith, ints), omega (arith, ints))
 
 -- local ticks are within the rounded drift of their number
-ticks_within : (x d r : ℤ) → pos 0 ≤ℤ x → pos 0 ≤ℤ d → neg_ℤ d ≤ℤ r → r ≤ℤ d → ((x -ℤ parts_rounded_up x d) ≤ℤ local_ticks r x) × (local_ticks r x ≤ℤ (x +ℤ parts_rounded_up x d))
+pub ticks_within : (x d r : ℤ) → pos 0 ≤ℤ x → pos 0 ≤ℤ d → neg_ℤ d ≤ℤ r → r ≤ℤ d → ((x -ℤ parts_rounded_up x d) ≤ℤ local_ticks r x) × (local_ticks r x ≤ℤ (x +ℤ parts_rounded_up x d))
 unfolding local_ticks
 ticks_within x d r h k low high =
     let p = product_within x d r h k low high in
