@@ -1,0 +1,5 @@
+mod OrderLemmas
+pub mod TurnLaws
+pub mod DueLaws
+pub mod PickLaws
+mod AgendaLemmas

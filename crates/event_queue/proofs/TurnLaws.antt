@@ -1,0 +1,216 @@
+-- Events in order: one more of them, and one taken out.
+use Rattle.std.specs.List.{AllByRecursion, Contains, insert, remove}
+use Rattle.std.specs.List.Sorted.{IsPartitionPoint, IsPartitionedBy}
+use Rattle.std.specs.Ordering.{is_lt}
+use Rattle.std.proofs.lemmas.Bool.{both_ways}
+use Rattle.std.proofs.lemmas.List.Sorted.{All-permutation, IsPermutation-refl, IsPermutation-sym, IsPermutation-trans, IsPermutation-cons, IsPermutation-append_left, IsPermutation-middle, IsPermutation-insert}
+use Rattle.std.proofs.lemmas.List.Elements.{recursion_from_All, All-from_recursion, All-get_or}
+use Rattle.std.proofs.Common.{◌≡◌, ℕ, zero, suc, ◌<◌, ◌≤◌, Bool, true, false, cond, List, [], ◌∷◌, ◌++◌, IsPermutation, length, get_or, slice_index_or, refl, sym, ap, ◌∙◌, subst, arith, append-nil}
+use Rattle.event_queue.specs.declared.event.Event.{Event}
+use Rattle.event_queue.specs.Event.{event_cmp, same_event}
+use Rattle.event_queue.specs.Agenda.{inserted, in_turn_from, in_turn, InTurn, without_event}
+use Rattle.event_queue.proofs.OrderLemmas.{same_event_true, same_event_refl, not_before_itself, one_of_two, before_order}
+
+-- the second does not come before the first
+abbrev pub IsBehind : Event → Event → Type 0
+IsBehind a b = is_lt (event_cmp b a) ≡ false
+
+-- what holds of all of a list, by what it follows from
+pub weaken : (P Q : Event → Type 0) → ((e : Event) → P e → Q e) → (es : List Event)
+    → AllByRecursion P es → AllByRecursion Q es
+weaken P Q h [] all = tt
+weaken P Q h (e ∷ es) all = (h e all.0, weaken P Q h es all.1)
+
+swap_two : (e f : Event) (es : List Event) → IsPermutation (e ∷ f ∷ es) (f ∷ e ∷ es)
+swap_two e f es = IsPermutation-insert (f ∷ es) 1 e
+
+-- One more.
+
+pub inserted_permutes : (e : Event) (es : List Event) → IsPermutation (inserted e es) (e ∷ es)
+inserted_permutes e [] = IsPermutation-refl (e ∷ [])
+inserted_permutes e (f ∷ fs) = go (is_lt (event_cmp f e)) (inserted_permutes e fs)
+  where
+    go : (t : Bool) → IsPermutation (inserted e fs) (e ∷ fs)
+        → IsPermutation (cond t (f ∷ inserted e fs) (e ∷ f ∷ fs)) (e ∷ f ∷ fs)
+    go true h = IsPermutation-trans _ _ _ (IsPermutation-cons f _ _ h) (swap_two f e fs)
+    go false h = IsPermutation-refl (e ∷ f ∷ fs)
+
+in_turn_from_permutes : (done es : List Event) → IsPermutation (in_turn_from done es) (done ++ es)
+in_turn_from_permutes done [] =
+    subst (IsPermutation done) (sym (append-nil done)) (IsPermutation-refl done)
+in_turn_from_permutes done (e ∷ es) =
+    IsPermutation-trans _ _ _ (in_turn_from_permutes (inserted e done) es)
+    (IsPermutation-trans _ _ _ (IsPermutation-append_left es _ _ (inserted_permutes e done))
+    (IsPermutation-sym _ _ (IsPermutation-middle done e es)))
+
+-- bringing events into order only moves them
+pub in_turn_permutes : (es : List Event) → IsPermutation (in_turn es) es
+in_turn_permutes es = in_turn_from_permutes [] es
+
+pub all_inserted : (P : Event → Type 0) (e : Event) (es : List Event) → P e → AllByRecursion P es
+    → AllByRecursion P (inserted e es)
+all_inserted P e es p all =
+    recursion_from_All P _ (All-permutation P _ _ (IsPermutation-sym _ _ (inserted_permutes e es))
+    (All-from_recursion P (e ∷ es) (p, all)))
+
+-- an event at its place leaves them in order
+pub inserted_turn : (e : Event) (es : List Event) → InTurn es → InTurn (inserted e es)
+inserted_turn e [] turn = (tt, tt)
+inserted_turn e (f ∷ fs) turn = go (is_lt (event_cmp f e)) refl (inserted_turn e fs turn.1)
+  where
+    go : (t : Bool) → is_lt (event_cmp f e) ≡ t → InTurn (inserted e fs)
+        → InTurn (cond t (f ∷ inserted e fs) (e ∷ f ∷ fs))
+    go true is rest = (all_inserted (IsBehind f) e fs (before_order.one_way f e is) turn.0, rest)
+    go false is rest =
+        let behind = λ (g : Event) (h : IsBehind f g). before_order.chain g f e h is in
+        ((is, weaken (IsBehind f) (IsBehind e) behind fs turn.0), turn)
+
+in_turn_from_turn : (done es : List Event) → InTurn done → InTurn (in_turn_from done es)
+in_turn_from_turn done [] turn = turn
+in_turn_from_turn done (e ∷ es) turn =
+    in_turn_from_turn (inserted e done) es (inserted_turn e done turn)
+
+pub in_turn_turn : (es : List Event) → InTurn (in_turn es)
+in_turn_turn es = in_turn_from_turn [] es tt
+
+-- By place.
+
+-- each event is behind those at lower places
+pub in_turn_at : (es : List Event) (i j : ℕ) (d : Event) → InTurn es → i ≤ j → j < length es
+    → IsBehind (get_or es i d) (get_or es j d)
+in_turn_at [] i j d turn le lt = absurd (omega arith)
+in_turn_at (f ∷ fs) zero zero d turn le lt = not_before_itself f
+in_turn_at (f ∷ fs) zero (suc j) d turn le lt =
+    All-get_or (IsBehind f) fs j d (omega arith) (All-from_recursion (IsBehind f) fs turn.0)
+in_turn_at (f ∷ fs) (suc i) zero d turn le lt = absurd (omega arith)
+in_turn_at (f ∷ fs) (suc i) (suc j) d turn le lt =
+    in_turn_at fs i j d turn.1 (omega arith) (omega arith)
+
+-- whether an event comes before another, as a test
+abbrev pub comes_ahead : Event → Event → Bool
+comes_ahead e f = is_lt (event_cmp f e)
+
+pub partitioned_turn : (e : Event) (es : List Event) → InTurn es
+    → IsPartitionedBy (comes_ahead e) es
+partitioned_turn e es turn i j d le lt before = go (comes_ahead e (get_or es i d)) refl
+  where
+    go : (t : Bool) → comes_ahead e (get_or es i d) ≡ t → t ≡ true
+    go true is = refl
+    go false is =
+        let not_before : comes_ahead e (get_or es j d) ≡ false =
+        before_order.chain (get_or es j d) (get_or es i d) e (in_turn_at es i j d turn le lt) is in
+        cc
+
+-- the place of an event is the one up to which all come before it
+pub inserted_place : (e : Event) (es : List Event) (i : ℕ) → i ≤ length es
+    → IsPartitionPoint (λ f. comes_ahead e f ≡ true) (λ f. comes_ahead e f ≡ false) es i
+    → inserted e es ≡ insert es i e
+inserted_place e [] zero le h = refl
+inserted_place e [] (suc i) le h = absurd (omega arith)
+inserted_place e (f ∷ fs) zero le h =
+    let first : comes_ahead e f ≡ false = h.1 0 f (omega arith) (omega arith) in
+    ap (λ t. cond t (f ∷ inserted e fs) (e ∷ f ∷ fs)) first
+inserted_place e (f ∷ fs) (suc i) le h =
+    let first : comes_ahead e f ≡ true = h.0 0 f (omega arith) (omega arith) in
+    ap (λ t. cond t (f ∷ inserted e fs) (e ∷ f ∷ fs)) first
+    ∙ ap (λ x. f ∷ x) (inserted_place e fs i (omega arith) (
+      λ k d a b. h.0 (suc k) d (omega arith) (omega arith),
+      λ k d a b. h.1 (suc k) d (omega arith) (omega arith),
+    ))
+
+-- One taken out.
+
+all_removed : (P : Event → Type 0) (es : List Event) (i : ℕ) → AllByRecursion P es
+    → AllByRecursion P (remove es i)
+all_removed P [] zero all = tt
+all_removed P [] (suc i) all = tt
+all_removed P (e ∷ es) zero all = all.1
+all_removed P (e ∷ es) (suc i) all = (all.0, all_removed P es i all.1)
+
+pub removed_turn : (es : List Event) (i : ℕ) → InTurn es → InTurn (remove es i)
+removed_turn [] zero turn = tt
+removed_turn [] (suc i) turn = tt
+removed_turn (e ∷ es) zero turn = turn.1
+removed_turn (e ∷ es) (suc i) turn =
+    (all_removed (IsBehind e) es i turn.0, removed_turn es i turn.1)
+
+-- an event that is left is taken out once
+pub taken_out : (e : Event) (left : List Event) → Contains left e
+    → IsPermutation left (e ∷ without_event e left)
+taken_out e [] at = absurd (omega arith)
+taken_out e (f ∷ fs) at = go (same_event e f) refl at (taken_out e fs)
+  where
+    further : same_event e f ≡ false → (k : ℕ) → k < length (f ∷ fs)
+        → slice_index_or (f ∷ fs) k e ≡ e → Contains fs e
+    further same zero h is =
+        absurd (both_ways _ same (ap (same_event e) is ∙ same_event_refl e))
+    further same (suc k) h is = (k, omega arith, is)
+
+    go : (t : Bool) → same_event e f ≡ t → Contains (f ∷ fs) e
+        → (Contains fs e → IsPermutation fs (e ∷ without_event e fs))
+        → IsPermutation (f ∷ fs) (e ∷ cond t fs (f ∷ without_event e fs))
+    go true same at later =
+        subst (λ x. IsPermutation (f ∷ fs) (x ∷ fs)) (sym (same_event_true e f same))
+        (IsPermutation-refl (f ∷ fs))
+    go false same at later =
+        IsPermutation-trans _ _ _
+        (IsPermutation-cons f _ _ (later (further same at.0 at.1 at.2)))
+        (swap_two f e (without_event e fs))
+
+pub all_without : (P : Event → Type 0) (e : Event) (left : List Event) → AllByRecursion P left
+    → AllByRecursion P (without_event e left)
+all_without P e [] all = tt
+all_without P e (f ∷ fs) all = go (same_event e f) (all_without P e fs all.1)
+  where
+    go : (t : Bool) → AllByRecursion P (without_event e fs)
+        → AllByRecursion P (cond t fs (f ∷ without_event e fs))
+    go true rest = all.1
+    go false rest = (all.0, rest)
+
+pub without_turn : (e : Event) (es : List Event) → InTurn es → InTurn (without_event e es)
+without_turn e [] turn = tt
+without_turn e (f ∷ fs) turn = go (same_event e f) (without_turn e fs turn.1)
+  where
+    go : (t : Bool) → InTurn (without_event e fs) → InTurn (cond t fs (f ∷ without_event e fs))
+    go true rest = turn.1
+    go false rest = (all_without (IsBehind f) e fs turn.0, rest)
+
+-- where an event stands again further on, all between are that event
+stands_again : (f : Event) (fs : List Event) (i : ℕ) (d : Event) → InTurn (f ∷ fs)
+    → i < length fs → get_or fs i d ≡ f → without_event f fs ≡ remove fs i → fs ≡ f ∷ remove fs i
+stands_again f [] i d turn lt again rest = absurd (omega arith)
+stands_again f (g ∷ gs) i d turn lt again rest =
+    ap (λ x. x ∷ gs) same ∙ ap (λ x. f ∷ x) (sym removed)
+  where
+    not_before : (k : ℕ) → k < length (g ∷ gs) → get_or (g ∷ gs) k d ≡ f
+        → is_lt (event_cmp f g) ≡ false
+    not_before k below is =
+        ap (λ e. is_lt (event_cmp e g)) (sym is)
+        ∙ in_turn_at (g ∷ gs) 0 k d turn.1 (omega arith) below
+
+    same : g ≡ f
+    same = one_of_two g f turn.0.0 (not_before i lt again)
+
+    tied : same_event f g ≡ true
+    tied = ap (same_event f) same ∙ same_event_refl f
+
+    removed : remove (g ∷ gs) i ≡ gs
+    removed = sym rest ∙ ap (λ t. cond t gs (g ∷ without_event f gs)) tied
+
+-- the event at a place is taken out there
+pub taken_at : (es : List Event) (i : ℕ) (d : Event) → InTurn es → i < length es
+    → without_event (get_or es i d) es ≡ remove es i
+taken_at [] i d turn h = absurd (omega arith)
+taken_at (f ∷ fs) zero d turn h =
+    ap (λ t. cond t fs (f ∷ without_event f fs)) (same_event_refl f)
+taken_at (f ∷ fs) (suc i) d turn h =
+    go (same_event (get_or fs i d) f) refl (taken_at fs i d turn.1 (omega arith))
+  where
+    go : (t : Bool) → same_event (get_or fs i d) f ≡ t
+        → without_event (get_or fs i d) fs ≡ remove fs i
+        → cond t fs (f ∷ without_event (get_or fs i d) fs) ≡ f ∷ remove fs i
+    go true is rest =
+        let again : get_or fs i d ≡ f = same_event_true (get_or fs i d) f is in
+        stands_again f fs i d turn (omega arith) again
+        (ap (λ e. without_event e fs) (sym again) ∙ rest)
+    go false is rest = ap (λ x. f ∷ x) rest

@@ -1,0 +1,4 @@
+pub mod Event
+pub mod Agenda
+pub mod Picker
+pub mod Laws
