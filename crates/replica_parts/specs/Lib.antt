@@ -3,5 +3,6 @@ pub mod Places
 pub mod Rooms
 pub mod Ballots
 pub mod States
+pub mod Windows
 pub mod Laws
 pub mod inner

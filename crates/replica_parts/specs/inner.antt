@@ -1,5 +1,4 @@
 -- Words of private functions, which no promise cites. This project's own.
 pub mod Slots
 pub mod Agreement
-pub mod Windows
 pub mod Arrivals

@@ -8,7 +8,7 @@ ghost use Rattle.rcp_model.specs.FrameRows.{FrameRows};
 ghost use Rattle.rcp_model.specs.Messages as messages;
 ghost use Rattle.rcp_model.specs.Messages.{heard_message, in_time};
 ghost use Rattle.replica_parts.specs.Ballots.{heard_by};
-ghost use Rattle.replica_parts.specs.inner.Windows.{IsWindowOf};
+ghost use Rattle.replica_parts.specs.Windows.{IsWindowOf};
 ghost use Rattle.replica_parts.specs.Places.{letter_at, letter_in, message_in, messages_in};
 ghost use Rattle.replica_parts.specs.Rooms.{AreHeard, ArePosts, HasRoom, IsHeard, IsPost};
 ghost use Rattle.replica_parts.specs.Setting.{IsSettingOf, HasPlanWith};
@@ -111,8 +111,8 @@ pub fn take_message(message: &Message, place: &mut Heard)
     place.present = true;
 }
 
-// Whether a letter arrives in a window.
-fn comes(window: &Window, place: &Post) -> bool
+/// Whether a letter stands in a place and arrives in a window.
+pub fn comes(window: &Window, place: &Post) -> bool
     ensures { (plan : PlanParts) (frame : ℕ) (rows : FrameRows) (receiver : ℕ)
         → IsWindowOf plan frame rows receiver window.now
         → in_time plan frame rows receiver (letter_in place.now)

@@ -21,7 +21,7 @@ mod window;
 pub use ballot::{Ballot, Heard};
 pub use commanding::{command_all, command_at, command_one, command_row, evaluated};
 pub use computing::{compute, compute_all, write_own, write_owns};
-pub use hearing::{arrival_of, hear, hear_all, take_message};
+pub use hearing::{arrival_of, comes, hear, hear_all, take_message};
 pub use held::Held;
 pub use holding::{hold_all, hold_one, overwrite, sync};
 pub use keeping::{end_tick, keep_all, keep_row};
@@ -30,3 +30,4 @@ pub use making::{ballots, command_rows, initial_states, messages, post_rows, vot
 pub use post::Post;
 pub use setting::{Setting, has_vote};
 pub use voting::{take_slot, vote, vote_all, vote_cell, vote_cells, vote_heard, vote_one};
+pub use window::Window;

@@ -5,7 +5,7 @@ ghost use Rattle.rcp_base.specs.declared.TheConstants.{MAX_FRAMES};
 ghost use Rattle.rcp_model.specs.declared.plan.PlanParts.{PlanParts};
 ghost use Rattle.rcp_model.specs.FrameRows.{FrameRows, rate_of, skew_of};
 ghost use Rattle.rcp_model.specs.Moments.{is_in_window};
-ghost use Rattle.replica_parts.specs.inner.Windows.{IsWindowOf};
+ghost use Rattle.replica_parts.specs.Windows.{IsWindowOf};
 ghost use Rattle.replica_parts.specs.Setting.{HasPlanWith, IsSettingOf};
 
 use crate::setting::Setting;
@@ -14,14 +14,14 @@ use layer_stack::FrameIn;
 
 /// The ticks from a replica's begin to its vote in a frame, both included.
 #[derive(Clone, Copy, Debug)]
-pub(crate) struct Window {
+pub struct Window {
     opens: i64,
     closes: i64,
 }
 
 impl Window {
     /// The window of a replica.
-    pub(crate) fn new(setting: &Setting, frame: u32, input: &FrameIn, replica: u32) -> Window
+    pub fn new(setting: &Setting, frame: u32, input: &FrameIn, replica: u32) -> Window
         requires of { HasPlanWith setting.now input.now }
         requires frame { frame ≤ MAX_FRAMES }
         requires replica { replica < setting.now.replicas }
