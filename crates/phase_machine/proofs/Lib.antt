@@ -1,0 +1,5 @@
+mod PlaceLemmas
+mod ComputingLemmas
+mod VotingLemmas
+mod SeatLemmas
+mod StepLemmas

@@ -1,0 +1,5 @@
+pub mod Seats
+pub mod Body
+pub mod Phases
+pub mod Phase
+pub mod Laws
