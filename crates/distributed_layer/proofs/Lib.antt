@@ -1,0 +1,6 @@
+mod TogetherLemmas
+mod LoopLemmas
+mod SendLemmas
+mod DeliverLemmas
+mod AmidLemmas
+mod AtLemmas

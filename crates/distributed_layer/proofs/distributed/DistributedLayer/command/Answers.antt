@@ -1,0 +1,14 @@
+use Rattle.distributed_layer.proofs.AtLemmas.{part, rests}
+use Rattle.distributed_layer.proofs.distributed.DistributedLayer.command.Goals as goal
+
+pub command-requires : goal.command-requires
+command-requires c =
+    let layer = c.args.self.now in
+    let at = c.requires.2 in (
+      c.requires.0,
+      c.args.replica,
+      part layer c.requires.0 c.requires.1 at c.args.replica,
+      rests layer c.requires.0 c.requires.1 at c.args.replica c.requires.3 c.index.result.now
+          c.index.ensures,
+      c.requires.4,
+    )

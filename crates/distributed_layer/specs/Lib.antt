@@ -1,0 +1,5 @@
+pub mod Together
+pub mod State
+pub mod Comparing
+pub mod Laws
+pub mod inner
