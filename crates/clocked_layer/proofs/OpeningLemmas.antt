@@ -1,0 +1,156 @@
+-- Events as they are added to an agenda, one after the other.
+use Rattle.std.specs.List.{flat_map, range_with_len}
+use Rattle.std.proofs.Common.{◌≡◌, ℕ, ℤ, ◌<◌, ◌≤◌, ◌+◌, Bool, true, false, cond, not, ◌&&◌, int_lt, List, [], ◌∷◌, ◌++◌, length, None, Some, refl, sym, ap, ap₂, ◌∙◌, arith, lt-ltb, append-nil, map-id}
+use Rattle.std.proofs.lemmas.Grind.{flat_map-append}
+use Rattle.std.proofs.lemmas.List.FromFn.{map-range_with_len_more}
+use Rattle.std.proofs.lemmas.List.Sorted.{length_permutation}
+use Rattle.event_queue.proofs.TurnLaws.{inserted_permutes}
+use Rattle.clock_model.specs.Order.{begin_of, block_begin, send_of, sync_of, vote_of}
+use Rattle.clocked_layer.specs.Events.{delivery, fresh_events, own_event, own_events}
+use Rattle.clocked_layer.specs.Opening.{AddsUpTo}
+use Rattle.event_queue.specs.Agenda.{EventQueue, in_turn_from, inserted, with_event}
+use Rattle.event_queue.specs.declared.event.Event.{Event}
+use Rattle.event_queue.specs.declared.event.EventKind.TheVariants.{Begin, Send, Sync, Vote}
+use Rattle.rcp_model.specs.FrameRows.{FrameRows, is_down}
+use Rattle.rcp_model.specs.Messages.{Letter, arrival_of, goes_out, is_up, is_voted, letter_to, message_to, own_message}
+use Rattle.rcp_model.specs.System.{SystemState, computed_cells, fresh_letter}
+use Rattle.rcp_model.specs.declared.plan.PlanParts.{PlanParts}
+use Rattle.replica_parts.specs.Setting.{HasPlanWith, IsSettingOf}
+use Rattle.replica_parts.specs.declared.setting.Setting.{Setting}
+
+pub one_added : (old new : EventQueue) (event : Event) → 1 ≤ old.spare
+    → new ≡ with_event old event → AddsUpTo 1 old new
+one_added old new event some is =
+    let left = ap (λ (q : EventQueue). length q.left) is in
+    let longer = length_permutation _ _ (inserted_permutes event old.left) in
+    let spare = ap (λ (q : EventQueue). q.spare) is in
+    record { few = omega (arith, some, spare); room = omega (arith, some, spare, left, longer) }
+
+-- Pieces that are added one after the other.
+
+in_turn_from-append : (done xs ys : List Event)
+    → in_turn_from done (xs ++ ys) ≡ in_turn_from (in_turn_from done xs) ys
+in_turn_from-append done [] ys = refl
+in_turn_from-append done (x ∷ xs) ys = in_turn_from-append (inserted x done) xs ys
+
+pub added_both : (done xs ys a b : List Event) → a ≡ in_turn_from done xs → b ≡ in_turn_from a ys
+    → b ≡ in_turn_from done (xs ++ ys)
+added_both done xs ys a b first second =
+    second ∙ ap (λ k. in_turn_from k ys) first ∙ sym (in_turn_from-append done xs ys)
+
+more_numbers : (n : ℕ) → range_with_len 0 (n + 1) ≡ range_with_len 0 n ++ n ∷ []
+more_numbers n =
+    sym (map-id (range_with_len 0 (n + 1))) ∙ map-range_with_len_more (λ x. x) 0 n n (omega arith)
+    ∙ ap (λ x. x ++ n ∷ []) (map-id (range_with_len 0 n))
+
+pub added_more : (piece : ℕ → List Event) (done a b : List Event) (n : ℕ)
+    → a ≡ in_turn_from done (flat_map piece (range_with_len 0 n)) → b ≡ in_turn_from a (piece n)
+    → b ≡ in_turn_from done (flat_map piece (range_with_len 0 (n + 1)))
+added_more piece done a b n first second =
+    added_both done (flat_map piece (range_with_len 0 n)) (piece n) a b first second
+    ∙ sym (ap (in_turn_from done)
+    (ap (flat_map piece) (more_numbers n) ∙ flat_map-append piece (range_with_len 0 n) (n ∷ [])
+    ∙ ap (λ x. flat_map piece (range_with_len 0 n) ++ x) (append-nil (piece n))))
+
+-- Events of a replica's own.
+
+up_is : (plan : PlanParts) (rows : FrameRows) (q : ℕ) → q < plan.replicas
+    → is_up plan rows q ≡ not (is_down rows q)
+up_is plan rows q below = ap (λ t. t && not (is_down rows q)) (lt-ltb q plan.replicas below)
+
+pub own_added : (plan : PlanParts) (frame : ℕ) (rows : FrameRows) (q : ℕ)
+    (done a b c d : List Event) (begin send vote sync : ℤ)
+    → q < plan.replicas → is_down rows q ≡ false
+    → begin ≡ begin_of plan frame rows q → send ≡ send_of plan frame rows q
+    → vote ≡ vote_of plan frame rows q → sync ≡ sync_of plan frame rows q
+    → a ≡ inserted (own_event Begin frame q begin) done
+    → b ≡ inserted (own_event Send frame q send) a
+    → c ≡ inserted (own_event Vote frame q vote) b
+    → d ≡ inserted (own_event Sync frame q sync) c
+    → d ≡ in_turn_from done (own_events plan frame rows q)
+own_added plan frame rows q done a b c d begin send vote sync below up eb es ev ey ia ib ic id =
+    id ∙ ap₂ (λ t x. inserted (own_event Sync frame q t) x) ey
+    (ic ∙ ap₂ (λ t x. inserted (own_event Vote frame q t) x) ev
+    (ib ∙ ap₂ (λ t x. inserted (own_event Send frame q t) x) es
+    (ia ∙ ap (λ t. inserted (own_event Begin frame q t) done) eb)))
+    ∙ sym (ap (λ t. in_turn_from done (cond t four []))
+    (up_is plan rows q below ∙ ap not up))
+  where
+    four : List Event
+    four =
+        own_event Begin frame q (begin_of plan frame rows q)
+        ∷ own_event Send frame q (send_of plan frame rows q)
+        ∷ own_event Vote frame q (vote_of plan frame rows q)
+        ∷ own_event Sync frame q (sync_of plan frame rows q) ∷ []
+
+pub none_added : (plan : PlanParts) (frame : ℕ) (rows : FrameRows) (q : ℕ) (done : List Event)
+    → q < plan.replicas → is_down rows q ≡ true
+    → done ≡ in_turn_from done (own_events plan frame rows q)
+none_added plan frame rows q done below down =
+    sym (ap (λ t. in_turn_from done (cond t four [])) (up_is plan rows q below ∙ ap not down))
+  where
+    four : List Event
+    four =
+        own_event Begin frame q (begin_of plan frame rows q)
+        ∷ own_event Send frame q (send_of plan frame rows q)
+        ∷ own_event Vote frame q (vote_of plan frame rows q)
+        ∷ own_event Sync frame q (sync_of plan frame rows q) ∷ []
+
+-- Deliveries of this frame know of a letter no more than that it goes out and when it arrives.
+
+abbrev arrives_at : PlanParts → ℕ → ℕ → ℕ → ℤ → List Event
+arrives_at plan frame q p tick =
+    cond (int_lt tick (block_begin plan (frame + 1))) (delivery frame q p tick ∷ []) []
+
+fresh_is : (plan : PlanParts) (state : SystemState) (rows : FrameRows) (frame q p : ℕ)
+    → fresh_events plan frame q p (fresh_letter plan state rows q p)
+    ≡ cond (goes_out plan rows p q)
+    (arrives_at plan frame q p (arrival_of plan state.done rows p q)) []
+unfolding fresh_letter letter_to
+fresh_is plan state rows frame q p = go (goes_out plan rows p q)
+  where
+    letter : Letter
+    letter = record {
+      arrival = arrival_of plan state.done rows p q;
+      message = message_to rows (own_message plan (is_voted plan) (state.replicas p).slot
+          (computed_cells plan rows (state.replicas p))) p q;
+    }
+
+    go : (t : Bool) → fresh_events plan frame q p (cond t (Some letter) None)
+        ≡ cond t (arrives_at plan frame q p (arrival_of plan state.done rows p q)) []
+    go true = refl
+    go false = refl
+
+pub fresh_added : (plan : PlanParts) (state : SystemState) (rows : FrameRows) (frame q p : ℕ)
+    (done new : List Event) (tick end : ℤ) (t : Bool)
+    → state.done ≡ frame → goes_out plan rows p q ≡ true
+    → tick ≡ arrival_of plan frame rows p q → end ≡ block_begin plan (frame + 1)
+    → int_lt tick end ≡ t → new ≡ cond t (inserted (delivery frame q p tick) done) done
+    → new ≡ in_turn_from done (fresh_events plan frame q p (fresh_letter plan state rows q p))
+fresh_added plan state rows frame q p done new tick end t at goes arrives ends test added =
+    added ∙ split t
+    ∙ sym (ap (in_turn_from done)
+    (fresh_is plan state rows frame q p
+    ∙ ap (λ u. cond u (arrives_at plan frame q p (arrival_of plan state.done rows p q)) []) goes
+    ∙ ap (λ n. arrives_at plan frame q p (arrival_of plan n rows p q)) at
+    ∙ ap₂ (λ x y. cond (int_lt x y) (delivery frame q p x ∷ []) []) (sym arrives) (sym ends)
+    ∙ ap (λ u. cond u (delivery frame q p tick ∷ []) []) test))
+  where
+    split : (u : Bool) → cond u (inserted (delivery frame q p tick) done) done
+        ≡ in_turn_from done (cond u (delivery frame q p tick ∷ []) [])
+    split true = refl
+    split false = refl
+
+pub stays_added : (plan : PlanParts) (state : SystemState) (rows : FrameRows) (frame q p : ℕ)
+    (done : List Event) → goes_out plan rows p q ≡ false
+    → done ≡ in_turn_from done (fresh_events plan frame q p (fresh_letter plan state rows q p))
+stays_added plan state rows frame q p done stays =
+    sym (ap (in_turn_from done)
+    (fresh_is plan state rows frame q p
+    ∙ ap (λ u. cond u (arrives_at plan frame q p (arrival_of plan state.done rows p q)) []) stays))
+
+-- the rows have as many replicas as every plan that the setting is of
+pub same_rows : (setting : Setting) (rows : FrameRows) → HasPlanWith setting rows
+    → (plan : PlanParts) → IsSettingOf plan setting → plan.replicas ≡ rows.replicas
+same_rows setting rows of plan s =
+    sym s.replicas ∙ of.1.replicas ∙ sym of.2.tables.replicas

@@ -1,0 +1,42 @@
+use Rattle.std.proofs.Common.{ap, arith, refl, sym, ◌++◌, ◌∙◌}
+use Rattle.std.specs.List.{flat_map, range_with_len}
+use Rattle.clocked_layer.proofs.OpeningLemmas.{added_both, added_more}
+use Rattle.clocked_layer.specs.Events.{events_from, own_events}
+use Rattle.event_queue.specs.Agenda.{in_turn_from}
+use Rattle.clocked_layer.proofs.opening.add_at.Goals as goal
+
+pub loop-sender-preserved : goal.loop-sender-preserved
+loop-sender-preserved c =
+    let k = c.loop-sender.invariant in
+    let e = c.add_from.ensures in
+    record {
+      room = record {
+        few = omega (arith, k.room.few, e.room.few);
+        room = omega (arith, k.room.room, e.room.room);
+      };
+      added = λ plan state s at late.
+          added_more (events_from plan state c.args.input.now c.args.replica) _
+          c.loop-sender.agenda.left c.add_from.new.agenda.left c.loop-sender.sender
+          (k.added plan state s at late) (e.events plan state s at late);
+    }
+
+pub returns-clause-events : goal.returns-clause-events
+returns-clause-events c plan state s at late =
+    let rows = c.args.input.now in
+    let q = c.args.replica in
+    let own = own_events plan c.args.frame rows q in
+    added_both c.args.agenda.now.left own
+    (flat_map (events_from plan state rows q) (range_with_len 0 c.loop-sender.sender)) _
+    c.loop-sender.agenda.left refl (c.loop-sender.invariant.added plan state s at late)
+    ∙ ap (λ n. in_turn_from c.args.agenda.now.left
+    (own ++ flat_map (events_from plan state rows q) (range_with_len 0 n)))
+    (omega (
+      arith,
+      s.replicas,
+      c.replicas-sender-end.ensures,
+      c.loop-sender-test.false,
+      c.loop-sender.auto,
+    ))
+    ∙ ap (λ n. in_turn_from c.args.agenda.now.left
+    (own_events plan n rows q
+    ++ flat_map (events_from plan state rows q) (range_with_len 0 plan.replicas))) (sym at)

@@ -1,0 +1,19 @@
+use Rattle.std.proofs.Common.{SFits, refl, rules, w64, ◌∙◌}
+use Rattle.std.proofs.lemmas.Int.{to_z-of_z}
+use Rattle.clocked_layer.proofs.ClockLemmas.{clock_seen, rate_read, skew_read}
+use Rattle.clocked_layer.proofs.ticks.send_of.Goals as goal
+
+pub send-requires-clause-clock : goal.send-requires-clause-clock
+send-requires-clause-clock c =
+    clock_seen _ _ c.requires.of c.args.frame c.args.replica _ _ c.requires.frame
+    c.skew.ensures c.rate.ensures
+
+pub returns : goal.returns
+returns c = λ plan same.
+    let fits : SFits w64 c.send.result = search rules in
+    to_z-of_z w64 c.send.result fits ∙ c.send.ensures.value
+    ∙ rw (
+      same,
+      skew_read _ _ c.requires.of c.args.replica _ c.skew.ensures,
+      rate_read _ _ c.requires.of c.args.replica _ c.rate.ensures,
+    ) refl

@@ -1,0 +1,10 @@
+pub mod Events
+pub mod Block
+pub mod Ready
+pub mod Way
+pub mod Laws
+pub mod Stepped
+pub mod Timed
+pub mod Opening
+pub mod Machine
+pub mod Clocked
