@@ -42,9 +42,6 @@ record IsClose (plan : PlanParts) (past : List FrameRows) (j p : ℕ) : Type 0 w
 mod_step : (n m : ℕ) → (n % m + 1) % m ≡ (n + 1) % m
 mod_step n m = sym (add-mul-mod_self_left (n % m + 1) m (n / m)) ∙ ap (λ x. x % m) (omega (arith, mod-add-div n m))
 
-length-sensors_of : (past : List FrameRows) → length (sensors_of past) ≡ length past
-length-sensors_of past = length-map past (λ (rows : FrameRows). rows.sensors)
-
 length-ideal_cells : (plan : PlanParts) (past : List FrameRows) → length (ideal_cells plan (sensors_of past)) ≡ length plan.cells
 length-ideal_cells plan [] = length-map plan.cells (λ (variable : Variable). variable.initial)
 length-ideal_cells plan (rows ∷ past) = length-cells_after_slot plan _ _ _ ∙ length-ideal_cells plan past

@@ -11,9 +11,6 @@ pub is_table : {X : Type 0} (n : ℕ) (f : ℕ → X) (xs : List X) (d : X) → 
 unfolding table
 is_table n f xs d l each = fill_by_all f xs n d l each
 
-pub filled_none : {X : Type 0} (n : ℕ) (f : ℕ → X) (d : X) (old : List X) → length old ≡ n → Filled n f d old old 0
-filled_none n f d old l = record { size = l; done = λ k lt. absurd (omega arith); rest = λ k le. refl }
-
 pub filled_more : {X : Type 0} (n : ℕ) (f : ℕ → X) (d : X) (old new : List X) (i : ℕ) (x : X) → Filled n f d old new i → i < n → x ≡ f i → Filled n f d old (set new i x) (i + 1)
 filled_more n f d old new i x h lt e = record {
   size = length-set new i x ∙ h.size;

@@ -1,5 +1,5 @@
 -- The forms of words, as far as they are built. This project's own.
-use Rattle.std.specs.Prelude.{ℕ, ◌&&◌, List, [], ◌∷◌, codes, map, string_bytes, Option, Some, None, if◌then◌else◌}
+use Rattle.std.specs.Prelude.{ℕ, ◌&&◌, ◌||◌, Bool, List, [], ◌∷◌, codes, map, string_bytes, Option, Some, None, if◌then◌else◌}
 use Rattle.std.specs.Str.{bytes_eq}
 use Rattle.std.proofs.Common.{String, Global}
 use Rattle.rcp_top.specs.declared.form.Form as asked
@@ -21,6 +21,10 @@ pub data Form : Type 0 where
 abbrev pub bytes_of_words : List (String Global) → List (List ℕ)
 bytes_of_words words = map (λ word. string_bytes word) words
 
+-- the word names a layer: the replicas in one step, or in phases
+abbrev pub names_layer : List ℕ → Bool
+names_layer word = bytes_eq word (codes "rs") || bytes_eq word (codes "ds")
+
 -- the form that the words are, if they are one
 abbrev pub form_of : List (List ℕ) → Option Form
 form_of (word ∷ file ∷ []) =
@@ -30,7 +34,7 @@ form_of (word ∷ file ∷ []) =
 form_of (word ∷ file ∷ journal ∷ []) =
     if bytes_eq word (codes "ideal") then Some (Form.ideal file journal) else None
 form_of (word ∷ file ∷ journal ∷ last ∷ []) =
-    if bytes_eq word (codes "replay") && bytes_eq last (codes "rs")
+    if bytes_eq word (codes "replay") && names_layer last
     then Some (Form.replay file journal) else None
 form_of _ = None
 
@@ -39,7 +43,7 @@ abbrev pub form_in : asked.Form → Form
 form_in (asked_variant.Check file) = Form.check file.now
 form_in (asked_variant.Thin file) = Form.thin file.now
 form_in (asked_variant.Ideal file journal) = Form.ideal file.now journal.now
-form_in (asked_variant.Replay file journal) = Form.replay file.now journal.now
+form_in (asked_variant.Replay file journal layer) = Form.replay file.now journal.now
 
 -- what is read for a form, and the text that is then due
 abbrev pub work_of : Form → Reading (List ℕ)

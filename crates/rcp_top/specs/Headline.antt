@@ -11,6 +11,7 @@ use Rattle.rcp_model.specs.History.{History}
 use Rattle.task_file.specs.TaskFile.{task_file_result}
 use Rattle.fault_journal.specs.History.{journal_result}
 use Rattle.rcp_top.specs.declared.status.Status.TheVariants as status
+use Rattle.rcp_top.specs.Forms.{names_layer}
 use Rattle.rcp_top.specs.Outcome.{Outcome, outcome_of}
 use Rattle.rcp_top.specs.Printed.{lines_of_frame}
 use Rattle.rcp_top.specs.Replay.{meets_guard, recovery_of_plan}
@@ -24,10 +25,11 @@ abbrev pub PrintsIdeal : Files → List ℕ → List ℕ → List ℕ → Type 0
 PrintsIdeal files file journal text =
     Prints (outcome_of (codes "ideal" ∷ file ∷ journal ∷ []) files) text
 
--- `replay FILE JOURNAL rs` is to print this text, over these files
+-- `replay FILE JOURNAL` with the word of a layer is to print this text, over these files
 abbrev pub PrintsReplay : Files → List ℕ → List ℕ → List ℕ → Type 0
 PrintsReplay files file journal text =
-    Prints (outcome_of (codes "replay" ∷ file ∷ journal ∷ codes "rs" ∷ []) files) text
+    (layer : List ℕ) × (names_layer layer ≡ true)
+    × Prints (outcome_of (codes "replay" ∷ file ∷ journal ∷ layer ∷ []) files) text
 
 -- a plan and a history, as the files under these words give them
 pub record AreGiven (files : Files) (file journal : List ℕ)

@@ -1,15 +1,35 @@
 //! The forms of words, as far as they are built.
 //! This project's own.
-ghost use Rattle.std.specs.Prelude.{◌≡◌, option_map};
+ghost use Rattle.std.specs.Prelude.{◌≡◌, is_some, option_map};
 ghost use Rattle.rcp_top.specs.Forms as spec;
+
+/// Which layer a replay runs, by its last word.
+#[derive(Clone, Copy)]
+pub enum LayerWord {
+    /// The replicas in one step.
+    Rs,
+    /// The replicas in phases, with mailboxes.
+    Ds,
+}
 
 /// A form of words.
 #[derive(Clone, Copy)]
 pub enum Form<'a> {
-    Check { file: &'a str },
-    Thin { file: &'a str },
-    Ideal { file: &'a str, journal: &'a str },
-    Replay { file: &'a str, journal: &'a str },
+    Check {
+        file: &'a str,
+    },
+    Thin {
+        file: &'a str,
+    },
+    Ideal {
+        file: &'a str,
+        journal: &'a str,
+    },
+    Replay {
+        file: &'a str,
+        journal: &'a str,
+        layer: LayerWord,
+    },
 }
 
 /// The form that the words are, if they are one.
@@ -38,15 +58,29 @@ pub fn form_of(words: &[String]) -> Option<Form<'_>>
             }
         }
         [word, file, journal, last] => {
-            if word.as_str() == "replay" && last.as_str() == "rs" {
+            if word.as_str() == "replay" {
                 Some(Form::Replay {
                     file: file.as_str(),
                     journal: journal.as_str(),
+                    layer: layer_of(last.as_str())?,
                 })
             } else {
                 None
             }
         }
         _ => None,
+    }
+}
+
+// The layer that a word names, if it names one.
+fn layer_of(word: &str) -> Option<LayerWord>
+    ensures { is_some result ≡ spec.names_layer word.now }
+{
+    if word == "rs" {
+        Some(LayerWord::Rs)
+    } else if word == "ds" {
+        Some(LayerWord::Ds)
+    } else {
+        None
     }
 }

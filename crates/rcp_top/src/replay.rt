@@ -1,4 +1,4 @@
-//! `replay FILE JOURNAL rs`: the run of the replicated system.
+//! `replay FILE JOURNAL` and the word of a layer: the run of the replicated system.
 //! After NASA TM-102716; the text is this project's own.
 ghost use Rattle.std.specs.Prelude.{◌≡◌, ◌≤◌, []};
 ghost use Rattle.rcp_base.specs.States.{IsLater};
@@ -10,11 +10,13 @@ ghost use Rattle.rcp_top.specs.Finds.{Finds};
 ghost use Rattle.rcp_top.specs.Replay as spec;
 ghost use Rattle.rcp_top.specs.Replay.{ShowsReplay, replay_of};
 
+use crate::form::LayerWord;
 use crate::judge::Judged;
 use crate::read::{read_journal_at, read_plan_at};
 use crate::replay_text::replay_lines;
 use crate::shown::Shown;
 use crate::stop::Stop;
+use distributed_layer::Distributed;
 use fault_journal::Journal;
 use layer_stack::{Layer, Run};
 use rcp_base::{Folder, Sink, WriteError};
@@ -23,11 +25,12 @@ use replica_layer::Replicated;
 use std::alloc::Global;
 use trace_text::{Label, Lines};
 
-/// A plan with its recovery length, and a journal of it before its first frame.
+/// A plan with its recovery length, a journal of it before its first frame, and which layer is to run it.
 #[derive(Drop)]
 pub struct Replay {
     pub judged: Judged,
     pub journal: Journal,
+    pub layer: LayerWord,
 }
 
 /// Reads the plan and the journal.
@@ -36,6 +39,7 @@ pub fn read_replay<'a, F: Folder>(
     folder: &mut F,
     file: &'a str,
     journal: &'a str,
+    layer: LayerWord,
 ) -> Result<Replay, Stop<'a>>
     ensures finds { Finds ShowsReplay (F.state folder.old) (F.state folder.new)
         (replay_of file.now journal.now) result }
@@ -43,7 +47,11 @@ pub fn read_replay<'a, F: Folder>(
 {
     let judged = read_plan_at(alloc, folder, file)?;
     let journal = read_journal_at(alloc, folder, &judged.plan, journal)?;
-    Ok(Replay { judged, journal })
+    Ok(Replay {
+        judged,
+        journal,
+        layer,
+    })
 }
 
 impl Shown for Replay {
@@ -57,7 +65,12 @@ impl Shown for Replay {
     ) -> Result<(), WriteError> {
         let mut journal = self.journal;
         let judged = &self.judged;
-        write_replay(alloc, lines, &judged.plan, judged.length, &mut journal, out)
+        let plan = &judged.plan;
+        let length = judged.length;
+        match self.layer {
+            LayerWord::Rs => write_in_one_step(alloc, lines, plan, length, &mut journal, out),
+            LayerWord::Ds => write_in_phases(alloc, lines, plan, length, &mut journal, out),
+        }
     }
 }
 
@@ -102,7 +115,7 @@ fn write_over<L: Layer + Drop, S: Sink>(
 }
 
 // The same by the replicas in one step.
-fn write_replay<S: Sink>(
+fn write_in_one_step<S: Sink>(
     alloc: Global,
     lines: &mut Lines,
     plan: &Plan,
@@ -116,5 +129,23 @@ fn write_replay<S: Sink>(
         (spec.replay_text plan.now length (history_in plan.now journal.old)) }
 {
     let layer = Replicated::new(alloc, plan)?;
+    write_over(alloc, lines, plan, length, layer, journal, out)
+}
+
+// The same by the replicas in phases.
+fn write_in_phases<S: Sink>(
+    alloc: Global,
+    lines: &mut Lines,
+    plan: &Plan,
+    length: u32,
+    journal: &mut Journal,
+    out: &mut S,
+) -> Result<(), WriteError>
+    requires length { 1 ≤ length }
+    requires journal { IsJournalOf plan.now journal.old }
+    ensures { Writes (S.state out.old) (S.state out.new) result
+        (spec.replay_text plan.now length (history_in plan.now journal.old)) }
+{
+    let layer = Distributed::new(alloc, plan)?;
     write_over(alloc, lines, plan, length, layer, journal, out)
 }

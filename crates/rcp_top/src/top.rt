@@ -70,8 +70,15 @@ fn run_form<F: Folder, S: Sink>(
         Form::Ideal { file, journal } => {
             finish(alloc, read_ideal(alloc, folder, file, journal), lines, out)
         }
-        Form::Replay { file, journal } => {
-            finish(alloc, read_replay(alloc, folder, file, journal), lines, out)
-        }
+        Form::Replay {
+            file,
+            journal,
+            layer,
+        } => finish(
+            alloc,
+            read_replay(alloc, folder, file, journal, layer),
+            lines,
+            out,
+        ),
     }
 }

@@ -83,14 +83,44 @@ impl Case {
         Ok(out)
     }
 
-    // Makes the call with the words of this line.
+    // Makes the call with the words of this line; a replay once with the word of each layer.
     fn check(&self, rt: &impl Abort, alloc: Global, line: &str, status: &str) -> Result<(), Fail> {
+        match line.strip_suffix(" rs") {
+            Some(replay) => self.check_layers(rt, alloc, replay, status),
+            None => self.check_line(rt, alloc, line, status),
+        }
+    }
+
+    fn check_layers(
+        &self,
+        rt: &impl Abort,
+        alloc: Global,
+        replay: &str,
+        status: &str,
+    ) -> Result<(), Fail> {
+        for layer in LAYERS {
+            let line = format!(in alloc; "{replay} {layer}")?;
+            self.check_line(rt, alloc, line.as_str(), status)?;
+        }
+        Ok(())
+    }
+
+    fn check_line(
+        &self,
+        rt: &impl Abort,
+        alloc: Global,
+        line: &str,
+        status: &str,
+    ) -> Result<(), Fail> {
         let mut folder = self.folder(alloc)?;
         let mut out = self.sink(alloc)?;
         let due = (status, self.due.as_str());
         check_call(rt, alloc, line, &mut folder, &mut out, due)
     }
 }
+
+/// The words of the layers that a replay may run over.
+pub const LAYERS: [&str; 2] = ["rs", "ds"];
 
 /// Puts a line, with its line feed, after a text.
 pub fn put_line(text: &mut String, line: &str) -> Result<(), AllocError> {

@@ -1,7 +1,7 @@
-//! `replay FILE JOURNAL rs`: the run of the replicas, with faults that are masked and faults that are not.
+//! `replay FILE JOURNAL` with the word of each layer: the run of the replicas, with faults that are masked and faults that are not.
 //! This project's own.
 use crate::call::{call, folder_of};
-use crate::case::{check_all, put_line};
+use crate::case::{LAYERS, check_all, put_line};
 use crate::outside::lines_are_writes;
 use example_plans::MOTOR;
 use rcp_base::MemSink;
@@ -405,19 +405,27 @@ fn votes_of(alloc: Global, line: &str, journal: &str) -> Result<String, Fail> {
     Ok(votes)
 }
 
-fn check_votes(rt: &impl Abort, alloc: Global, rows: &str) -> Result<(), Fail> {
+fn check_votes(rt: &impl Abort, alloc: Global, layer: &str, rows: &str) -> Result<(), Fail> {
     let journal = journal_with(alloc, rows)?;
-    let replayed = votes_of(alloc, "replay T J rs", journal.as_str())?;
+    let line = format!(in alloc; "replay T J {layer}")?;
+    let replayed = votes_of(alloc, line.as_str(), journal.as_str())?;
     let ideal = votes_of(alloc, "ideal T J", journal.as_str())?;
-    assert_eq!(rt; replayed.as_str(), ideal.as_str(), "{rows}");
-    assert!(rt; !replayed.is_empty(), "{rows}");
+    assert_eq!(rt; replayed.as_str(), ideal.as_str(), "{layer}: {rows}");
+    assert!(rt; !replayed.is_empty(), "{layer}: {rows}");
+    Ok(())
+}
+
+fn check_votes_of_layers(rt: &impl Abort, alloc: Global, rows: &str) -> Result<(), Fail> {
+    for layer in LAYERS {
+        check_votes(rt, alloc, layer, rows)?;
+    }
     Ok(())
 }
 
 #[test]
 fn votes_under_the_guard_are_those_of_the_single_processor(rt: HostRuntime) -> Result<(), Fail> {
     for rows in GUARDED.lines() {
-        check_votes(&rt, rt.alloc(), rows)?;
+        check_votes_of_layers(&rt, rt.alloc(), rows)?;
     }
     Ok(())
 }

@@ -23,7 +23,6 @@ thin
 thin T J
 replay T J
 replay T
-replay T J ds
 replay T J da
 replay T J xs
 replay T J RS

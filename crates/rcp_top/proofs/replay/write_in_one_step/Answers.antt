@@ -1,6 +1,6 @@
 use Rattle.std.proofs.lemmas.Result.{err_from_is_err_and}
 use Rattle.rcp_base.proofs.WritingLaws.{writes_nothing}
-use Rattle.rcp_top.proofs.replay.write_replay.Goals as goal
+use Rattle.rcp_top.proofs.replay.write_in_one_step.Goals as goal
 
 pub returns-in_err-layer : goal.returns-in_err-layer
 returns-in_err-layer g c =
