@@ -1,4 +1,4 @@
-//! Tests of clocks, compiled code, messages and layers, over their public calls.
+//! Tests of clocks, compiled code, events, messages, mailboxes and layers, over their public calls.
 //! This project's own.
 #![tactic(auto)]
 
@@ -9,7 +9,15 @@ mod clocks;
 #[cfg(test)]
 mod code;
 #[cfg(test)]
+mod events;
+#[cfg(test)]
+mod mailboxes;
+#[cfg(test)]
 mod messages;
+#[cfg(test)]
+mod on_clocks;
+#[cfg(test)]
+mod phases;
 #[cfg(test)]
 mod replicas;
 #[cfg(test)]

@@ -119,8 +119,8 @@ fn put_frames<L: Layer>(
     Ok(())
 }
 
-// A run over a fresh layer, and the journal before its first frame.
-fn begin<'p, L: Layer + Drop>(
+/// A run over a fresh layer, and the journal before its first frame.
+pub fn begin<'p, L: Layer + Drop>(
     alloc: Global,
     plan: &'p Plan,
     length: u32,
@@ -214,8 +214,8 @@ fn put_votes<L: Layer>(
     Ok(())
 }
 
-// Runs all frames of a journal.
-fn run_all<L: Layer>(rt: &impl Abort, run: &mut Run<'_, L>, journal: &mut Journal)
+/// Runs all frames of a journal.
+pub fn run_all<L: Layer>(rt: &impl Abort, run: &mut Run<'_, L>, journal: &mut Journal)
     requires { (history : History) × GoesThrough L.is_at run.old journal.old history }
     ensures goes { (history : History) × GoesThrough L.is_at run.new journal.new history }
     ensures plan { run.new.plan ≡ run.old.plan }
