@@ -2,9 +2,10 @@
 use Rattle.std.proofs.Common.{◌≡◌, pos, [], ◌∷◌, true, false, None, refl}
 use Rattle.std.specs.Fmt.{digits}
 use Rattle.std.specs.Prelude.{codes}
+use Rattle.event_queue.specs.declared.event.EventKind.TheVariants as event
 use Rattle.fault_journal.specs.declared.fault.JournalFault.TheVariants as journal
 use Rattle.trace_text.specs.declared.label.Label.TheVariants as label
-use Rattle.trace_text.specs.Lines.{count_line, frame_guard_line, replica_line, vote_line}
+use Rattle.trace_text.specs.Lines.{count_line, event_line, frame_guard_line, replica_line, vote_line}
 use Rattle.trace_text.specs.Refusals.{journal_refused_line}
 
 -- a journal past the limit takes too long
@@ -27,3 +28,11 @@ line_of_a_replica_that_is_down = refl
 line_of_a_count : count_line label.NoVote 7 ≡ codes "none 7\n"
 unfolding count_line digits
 line_of_a_count = refl
+
+line_of_a_send : event_line record { tick = pos 30053; kind = event.Send; replica = 2; other = 0; frame = 7 } ≡ codes "30053 send 2\n"
+unfolding event_line digits
+line_of_a_send = refl
+
+line_of_a_delivery : event_line record { tick = pos 32053; kind = event.Deliver; replica = 0; other = 2; frame = 7 } ≡ codes "32053 deliver 2 to 0 of 7\n"
+unfolding event_line digits
+line_of_a_delivery = refl

@@ -1,6 +1,9 @@
 -- The lines of a run, each with its line feed. This project's own.
 use Rattle.std.specs.Prelude.{ℕ, ℤ, Bool, List, ◌∷◌, ◌++◌, codes, flat_map, Option, Some, None, if◌then◌else◌}
 use Rattle.std.specs.Fmt.{decimal, signed_decimal}
+use Rattle.event_queue.specs.declared.event.Event.{Event}
+use Rattle.event_queue.specs.declared.event.EventKind.{EventKind}
+use Rattle.event_queue.specs.declared.event.EventKind.TheVariants as event
 use Rattle.trace_text.specs.declared.label.Label.{Label}
 use Rattle.trace_text.specs.declared.label.Label.TheVariants as label
 
@@ -63,3 +66,23 @@ label_word label.End = codes "end"
 -- `recovery L`, `votes COUNT`, `end FRAMES` and their like
 unfoldable pub count_line : Label → ℕ → List ℕ
 count_line label value = label_word label ++ codes " " ++ decimal value ++ codes "\n"
+
+-- the word of a kind of event
+abbrev pub kind_word : EventKind → List ℕ
+kind_word event.Begin = codes "begin"
+kind_word event.Send = codes "send"
+kind_word event.Deliver = codes "deliver"
+kind_word event.Vote = codes "vote"
+kind_word event.Sync = codes "sync"
+
+-- whose an event of a kind is: `P`, or `FROM to TO of FRAME`
+abbrev pub whose_text : EventKind → Event → List ℕ
+whose_text event.Deliver it =
+    decimal it.other ++ codes " to " ++ decimal it.replica ++ codes " of " ++ decimal it.frame
+whose_text kind it = decimal it.replica
+
+-- `TICK begin P`, `TICK send P`, `TICK deliver FROM to TO of FRAME`, `TICK vote P`, `TICK sync P`
+unfoldable pub event_line : Event → List ℕ
+event_line it =
+    signed_decimal it.tick ++ codes " " ++ kind_word it.kind ++ codes " "
+    ++ whose_text it.kind it ++ codes "\n"

@@ -15,6 +15,7 @@ mod refusals;
 use crate::label::{Label, label_word};
 use crate::piece::{Piece, down_or_up, value_or_none, yes_or_no};
 use crate::words::{key_word, section_word};
+use event_queue::{Event, EventKind};
 use itoa::Buffer;
 use rcp_base::{Memory, Name};
 use std::alloc::Global;
@@ -117,6 +118,43 @@ impl Lines {
             Piece::Values(cells),
             Piece::Text(b" working "),
             yes_or_no(working),
+            Piece::Text(b"\n"),
+        ])
+    }
+
+    /// `TICK begin P` and its like, or `TICK deliver FROM to TO of FRAME`
+    #[tactic(auto, unfolding(crate::specs::Lines::event_line))]
+    pub fn event(&mut self, event: &Event) -> &[u8]
+        ensures { result.now ≡ spec.event_line event.now }
+    {
+        match event.kind {
+            EventKind::Begin => self.own_event(event, b" begin "),
+            EventKind::Send => self.own_event(event, b" send "),
+            EventKind::Deliver => self.line(&[
+                Piece::Value(event.tick),
+                Piece::Text(b" deliver "),
+                Piece::Count(event.other as u64),
+                Piece::Text(b" to "),
+                Piece::Count(event.replica as u64),
+                Piece::Text(b" of "),
+                Piece::Count(event.frame as u64),
+                Piece::Text(b"\n"),
+            ]),
+            EventKind::Vote => self.own_event(event, b" vote "),
+            EventKind::Sync => self.own_event(event, b" sync "),
+        }
+    }
+
+    // The line of an event of a replica's own, with this word.
+    fn own_event(&mut self, event: &Event, word: &[u8]) -> &[u8]
+        requires { length word.now ≤ 8 }
+        ensures { result.now ≡ signed_decimal event.now.tick
+            ++ word.now ++ decimal event.now.replica ++ codes "\n" }
+    {
+        self.line(&[
+            Piece::Value(event.tick),
+            Piece::Text(word),
+            Piece::Count(event.replica as u64),
             Piece::Text(b"\n"),
         ])
     }
