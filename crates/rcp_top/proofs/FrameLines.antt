@@ -16,7 +16,8 @@ use Rattle.trace_text.specs.declared.label.Label.TheVariants as label
 use Rattle.trace_text.specs.Lines.{count_line, frame_line, frame_guard_line, vote_line, ideal_line}
 use Rattle.rcp_top.specs.Ideal.{frame_text, frames_text, ideal_text, sensors_of_history}
 use Rattle.rcp_top.specs.Printed.{frame_lines, lines_with, lines_in, begins_with, is_frame_line, lines_after, lines_of_frame}
-use Rattle.rcp_top.specs.Replay.{meets_guard, voted_line, held_line, voted_lines, held_lines, replay_frame_text, replay_frames_text, replay_text}
+use Rattle.rcp_top.specs.Frames.{texts_from}
+use Rattle.rcp_top.specs.Replay.{meets_guard, voted_line, held_line, voted_lines, held_lines, replay_frame_text, replay_text}
 use Rattle.rcp_top.proofs.LineShapes.{both_true, free_name, frame_is_line, frame_guard_is_line, vote_is_line, ideal_is_line, replica_is_line, recovery_is_line, end_is_line, frame_begins, frame_guard_begins, vote_is_no_frame, replica_is_no_frame, ideal_is_no_frame}
 use Rattle.rcp_top.proofs.PrintedLemmas.{HasNoFeed, IsLine, AreLines, HasNoFrame, joined, joined_more, lines_joined, joined_lines, no_frame_joined, passed_over, taken_here}
 
@@ -214,8 +215,8 @@ replay_frames plan recovery named = record {
 }
 
 replay_text_lines : (plan : PlanParts) (recovery : ℕ) (past : List FrameRows) (frames : History)
-    → replay_frames_text plan recovery past frames ≡ joined (frames_lines (replay_first plan recovery) (replay_rest plan recovery) past frames)
-unfolding replay_frames_text replay_frame_text
+    → texts_from (replay_frame_text plan recovery) past frames ≡ joined (frames_lines (replay_first plan recovery) (replay_rest plan recovery) past frames)
+unfolding texts_from replay_frame_text
 replay_text_lines plan recovery past [] = refl
 replay_text_lines plan recovery past (rows ∷ frames) =
     let first = replay_first plan recovery rows past in
@@ -227,7 +228,7 @@ replay_text_lines plan recovery past (rows ∷ frames) =
     ap (λ vs. vs ++ held_lines plan recovery rows past) (flat_is_joined (voted_line plan (rows ∷ past)) (actuator_numbers plan))
     ∙ ap (λ ls. joined votes ++ ls) (flat_is_joined (held_line plan recovery rows past) (range_with_len 0 plan.replicas))
     ∙ sym (joined_more votes held) in
-    append_assoc first body (replay_frames_text plan recovery (rows ∷ past) frames)
+    append_assoc first body (texts_from (replay_frame_text plan recovery) (rows ∷ past) frames)
     ∙ ap (λ ls. first ++ (body ++ ls)) (replay_text_lines plan recovery (rows ∷ past) frames)
     ∙ ap (λ ls. first ++ (ls ++ joined more)) body_is
     ∙ ap (λ ls. first ++ ls) (sym (joined_more (replay_rest plan recovery rows past) more))

@@ -18,3 +18,6 @@ mod ReplayedLemmas
 mod EachFrameLemmas
 mod ReplayExamples
 mod ReplayLemmas
+mod RunLemmas
+mod EventLemmas
+mod LayerLemmas

@@ -1,4 +1,5 @@
 -- Readings one after the other, over any folder.
+use Rattle.std.specs.Result.{ForOk}
 use Rattle.std.proofs.Common.{◌≡◌, ℕ, List, [], Option, None, Some, Result, Ok, Err, refl, inl, inr, sym, subst, arith}
 use Rattle.rcp_base.specs.Files.{Files, IfTold, IsMissing}
 use Rattle.rcp_base.specs.States.{FolderState, IsLater}
@@ -102,3 +103,16 @@ finds_here is a b said (Err stop.Memory) tells = tt
 finds_here is a b said (Ok y) tells = tells
 finds_here is a b said (Err (stop.Refused why)) tells = tells
 finds_here is a b said (Err (stop.Unreadable word)) tells = tells
+
+-- what was found stands for something
+does_stand_for : {X Y : Type 0} (is : Y → X → Type 0) (a b : FolderState) (reading : Reading X) (y : Y) → Does a b reading (TellsEnd is (Ok y)) → (x : X) × is y x
+does_stand_for is a b (Reading.gives (Ok x)) y tells = (x, tells)
+does_stand_for is a b (Reading.gives (Err why)) y tells = absurd tells
+does_stand_for is a b (Reading.reads name next) y (inl unread) = absurd unread.1
+does_stand_for is a b (Reading.reads name next) y (inr read) = does_stand_for is a b (next read.0) y read.2
+
+pub finds_stand_for : {X Y : Type 0} (is : Y → X → Type 0) (a b : FolderState) (reading : Reading X) (answer : Result Y Stop) → Finds is a b reading answer
+    → ForOk answer (λ y. (x : X) × is y x)
+finds_stand_for {Y = Y} is a b reading answer found y ok =
+    let P : Result Y Stop → Type 0 = λ said. Finds is a b reading said in
+    does_stand_for is a b reading y (subst P ok found)

@@ -20,7 +20,8 @@ use Rattle.rcp_model.specs.Slot.{cells_after_slot}
 use Rattle.rcp_model.specs.System.{state_after_sync, state_after_rows, still_on_its_way, fresh_letter, heard_in, ballot_in, end_of_frame, next_state, initial_state, actuator_vote}
 use Rattle.trace_text.specs.Lines.{count_line, frame_guard_line, replica_line}
 use Rattle.rcp_top.specs.Printed.{frame_lines, lines_of_frame}
-use Rattle.rcp_top.specs.Replay.{replay_frame_text, replay_frames_text, replay_text}
+use Rattle.rcp_top.specs.Frames.{texts_from}
+use Rattle.rcp_top.specs.Replay.{replay_frame_text, replay_text}
 
 -- three replicas hold a number, and vote it in each of two slots
 abbrev plan : PlanParts
@@ -75,7 +76,7 @@ unfolding is_median chosen_value voted_value taken_slot voted_cell voted_cells b
 system_definitions = tt
 
 unfoldable text_definitions : ⊤
-unfolding digits count_line frame_guard_line replica_line replay_frame_text replay_frames_text replay_text
+unfolding digits count_line frame_guard_line replica_line texts_from replay_frame_text replay_text
 text_definitions = tt
 
 -- working is told by health alone: replica 1 is wrong and working where the guard does not hold

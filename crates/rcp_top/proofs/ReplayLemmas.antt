@@ -1,12 +1,11 @@
 -- The text of a replay, one frame at a time, and what each of its lines is of.
-use Rattle.std.proofs.Common.{◌≡◌, ◌↔◌, ℕ, ℤ, pos, ◌+◌, ◌<◌, ◌≤◌, Bool, IsTrue, List, [], ◌∷◌, ◌++◌, length, take, drop, reverse, get_or, Result, ap, sym, ◌∙◌, subst, arith, append_assoc}
-use Rattle.std.proofs.lemmas.List.{take_more, drop_more, drop_all, reverse-append, length-take-le, length-reverse, length-map, get_or-take}
+use Rattle.std.proofs.Common.{◌≡◌, ◌↔◌, ℕ, ℤ, pos, ◌+◌, ◌<◌, ◌≤◌, Bool, IsTrue, List, [], ◌∷◌, length, take, get_or, Result, ap, sym, ◌∙◌, subst, arith}
+use Rattle.std.proofs.lemmas.List.{length-take-le, length-map, get_or-take}
 use Rattle.rcp_base.specs.declared.sink.WriteError.{WriteError}
 use Rattle.rcp_base.specs.Adding.{Adds, IsHalfway}
 use Rattle.rcp_base.specs.Filling.{Filled}
 use Rattle.rcp_base.specs.States.{SinkState}
 use Rattle.rcp_base.specs.Tables.{table}
-use Rattle.rcp_base.proofs.AddingLaws.{halfway_as, halfway_more}
 use Rattle.rcp_base.proofs.FillLaws.{is_table}
 use Rattle.rcp_base.proofs.TableLaws.{length-table, table_same}
 use Rattle.rcp_model.specs.declared.plan.PlanParts.{PlanParts}
@@ -14,14 +13,13 @@ use Rattle.rcp_model.specs.FrameRows.{FrameRows, is_down}
 use Rattle.rcp_model.specs.Health.{MeetsGuard, is_working}
 use Rattle.rcp_model.specs.History.{History, past_of}
 use Rattle.rcp_model.specs.System.{SystemState, initial_state, next_state, end_of_frame, state_after, state_after_rows}
-use Rattle.layer_stack.specs.Inputs.{IsHistoryOf}
 use Rattle.layer_stack.specs.Layer.{cell_in}
-use Rattle.layer_stack.specs.Run.{CanRun, StandsFor}
+use Rattle.layer_stack.specs.Run.{StandsFor}
 use Rattle.layer_stack.specs.declared.run.Run.{Run}
-use Rattle.trace_text.specs.declared.label.Label.TheVariants as label
-use Rattle.trace_text.specs.Lines.{count_line, replica_line}
-use Rattle.rcp_top.specs.Replay.{held_line, meets_guard, replay_frame_text, replay_frames_text}
+use Rattle.trace_text.specs.Lines.{replica_line}
+use Rattle.rcp_top.specs.Replay.{held_line, meets_guard, replay_frame_text}
 use Rattle.rcp_top.proofs.GuardLemmas.{guard_is_tested}
+use Rattle.rcp_top.proofs.RunLemmas.{frame_written, past_at, past_length, rest_of_run}
 
 -- the first places of a list that was filled so far are a table
 pub first_places : {X : Type 0} (n most : ℕ) (f : ℕ → X) (d : X) (old new : List X) (i : ℕ) → Filled most f d old new i → n ≤ i → n ≤ most → take n new ≡ table n f
@@ -54,59 +52,18 @@ guard_told plan recovery past told is =
     let tested = guard_is_tested plan recovery past in
     grind (arith, is, tested)
 
--- the frame after t frames, where it is there, and all up to it
-past_at : (history : History) (t : ℕ) (d : FrameRows) → t < length history → past_of history (t + 1) ≡ get_or history t d ∷ past_of history t
-past_at history t d lt = ap reverse (take_more history t d lt) ∙ reverse-append (take t history) (get_or history t d ∷ [])
-
-past_length : (history : History) (t : ℕ) → t ≤ length history → length (past_of history t) ≡ t
-past_length history t le = length-reverse (take t history) ∙ length-take-le t history le
-
--- what is to be written after t frames
-abbrev pub rest_of_run : PlanParts → ℕ → History → ℕ → List ℕ
-rest_of_run plan recovery history t = replay_frames_text plan recovery (past_of history t) (drop t history) ++ count_line label.End (length history)
-
-run_at : (plan : PlanParts) (recovery : ℕ) (history : History) (t : ℕ) (d : FrameRows) → t < length history
-    → rest_of_run plan recovery history t ≡ replay_frame_text plan recovery (get_or history t d) (past_of history t) ++ rest_of_run plan recovery history (t + 1)
-unfolding replay_frames_text
-run_at plan recovery history t d lt =
-    let past = past_of history t in
-    let rows = get_or history t d in
-    let rest = drop (t + 1) history in
-    let last = count_line label.End (length history) in
-    ap (λ frames. replay_frames_text plan recovery past frames ++ last) (drop_more history t d lt)
-    ∙ (append_assoc (replay_frame_text plan recovery rows past) (replay_frames_text plan recovery (rows ∷ past) rest) last
-    ∙ ap (λ p. replay_frame_text plan recovery rows past ++ (replay_frames_text plan recovery p rest ++ last)) (sym (past_at history t d lt)))
-
-pub run_at_end : (plan : PlanParts) (recovery : ℕ) (history : History) (t : ℕ) → length history ≤ t → rest_of_run plan recovery history t ≡ count_line label.End (length history)
-unfolding replay_frames_text
-run_at_end plan recovery history t le =
-    ap (λ frames. replay_frames_text plan recovery (past_of history t) frames ++ count_line label.End (length history)) (drop_all t history le)
-
--- a run that stands for t frames can run the next one, and then stands for it
-pub stands_next : {L : Type 0} (at : L → PlanParts → SystemState → Type 0) (plan : PlanParts) (old new : Run L) (history : History) (before after t : ℕ)
-    → old.plan.now ≡ plan → before ≡ t → after ≡ t + 1 → t < length history → IsHistoryOf plan history → StandsFor at old (past_of history t)
-    → (CanRun at old history before 1 → StandsFor at new (past_of history after)) → StandsFor at new (past_of history (t + 1))
-stands_next at plan old new history before after t same was is more are stands ran =
-    let OfPlan : PlanParts → Type 0 = λ p. IsHistoryOf p history in
-    let Old : ℕ → Type 0 = λ k. StandsFor at old (past_of history k) in
-    let New : ℕ → Type 0 = λ k. StandsFor at new (past_of history k) in
-    let can : CanRun at old history before 1 =
-    record { of_plan = subst OfPlan (sym same) are; more = omega (arith, was, more); stands = subst Old (sym was) stands } in
-    subst New is (ran can)
-
 -- the lines of the frame for which it then stands were written
-pub frame_written : {L T U : Type 0} {a b : SinkState} {r : Result T WriteError} {whole : List ℕ} (at : L → PlanParts → SystemState → Type 0)
+pub frame_replayed : {L T U : Type 0} {a b : SinkState} {r : Result T WriteError} {whole : List ℕ} (at : L → PlanParts → SystemState → Type 0)
     (plan : PlanParts) (run : Run L) (history : History) (t length_of_run recovery : ℕ) (d : FrameRows) (c : SinkState) (s : Result U WriteError)
-    → length_of_run ≡ recovery → t < length history → StandsFor at run (past_of history (t + 1)) → IsHalfway a b r (rest_of_run plan recovery history t) whole
+    → length_of_run ≡ recovery → t < length history → StandsFor at run (past_of history (t + 1)) → IsHalfway a b r (rest_of_run (replay_frame_text plan recovery) history t) whole
     → ((rows : FrameRows) (past : List FrameRows) → StandsFor at run (rows ∷ past) → t ≡ length past → Adds b c r s (replay_frame_text plan length_of_run rows past))
-    → IsHalfway a c s (rest_of_run plan recovery history (t + 1)) whole
-frame_written {U = U} {b = b} {r = r} at plan run history t length_of_run recovery d c s same more stands so_far adds =
+    → IsHalfway a c s (rest_of_run (replay_frame_text plan recovery) history (t + 1)) whole
+frame_replayed {U = U} {b = b} {r = r} at plan run history t length_of_run recovery d c s same more stands so_far adds =
     let rows = get_or history t d in
     let past = past_of history t in
     let Stands : List FrameRows → Type 0 = λ frames. StandsFor at run frames in
     let P : ℕ → Type 0 = λ k. Adds {U = U} b c r s (replay_frame_text plan k rows past) in
-    halfway_more c s (replay_frame_text plan recovery rows past) (rest_of_run plan recovery history (t + 1))
-    (halfway_as _ _ (run_at plan recovery history t d more) so_far)
+    frame_written (replay_frame_text plan recovery) history t d c s more so_far
     (subst P same (adds rows past (subst Stands (past_at history t d more) stands) (sym (past_length history t (omega (arith, more))))))
 
 -- where the layer of a run of the plan is

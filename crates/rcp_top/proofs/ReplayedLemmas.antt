@@ -1,5 +1,5 @@
 -- What a replay that prints a text has read, and that it is ideal under the guard.
-use Rattle.std.proofs.Common.{◌≡◌, ℕ, zero, suc, true, false, Bool, if◌then◌else◌, List, [], ◌∷◌, ◌++◌, codes, Option, None, Some, slice_get, Result, Ok, Err, refl, sym, ap, ◌∙◌, subst, inl, inr}
+use Rattle.std.proofs.Common.{◌≡◌, ℕ, zero, suc, false, List, [], ◌∷◌, ◌++◌, codes, Option, None, Some, slice_get, Result, Ok, Err, refl, sym, ap, ◌∙◌, subst, inl, inr}
 use Rattle.std.proofs.lemmas.Bool.{cases_Bool, cond-true, cond-false}
 use Rattle.rcp_base.specs.Files.{Files}
 use Rattle.rcp_model.specs.declared.plan.PlanParts.{PlanParts}
@@ -18,15 +18,16 @@ use Rattle.layer_stack.specs.Recovery.{ReplicasRecover}
 use Rattle.rcp_top.specs.declared.status.Status.TheVariants as status
 use Rattle.rcp_top.specs.declared.stop.Refusal.{Refusal}
 use Rattle.rcp_top.specs.declared.stop.Refusal.TheVariants as refusal
-use Rattle.rcp_top.specs.Forms.{Form, form_of, names_layer}
 use Rattle.rcp_top.specs.Headline.{Prints, PrintsIdeal, PrintsReplay, AreGiven, IsIdealAt, IsIdealSoFarAt, ReplaysAreIdealUnderTheGuard, CutReplaysAreIdealUnderTheGuard}
 use Rattle.rcp_top.specs.Ideal.{ideal_text, sensors_of_history}
-use Rattle.rcp_top.specs.Outcome.{Outcome, outcome_at, outcome_by}
+use Rattle.rcp_top.specs.Outcome.{Outcome, outcome_at}
 use Rattle.rcp_top.specs.Printed.{lines_of_frame}
 use Rattle.rcp_top.specs.Read.{plan_at, history_at, good_plan, good_history, shown}
 use Rattle.rcp_top.specs.Reading.{Reading, End, end_at, end_over, file_at, ◌>>=◌}
-use Rattle.rcp_top.specs.Replay.{recovery_of_plan, replay_of, replay_text}
+use Rattle.rcp_top.specs.Frames.{recovery_of_plan}
+use Rattle.rcp_top.specs.Replay.{replay_of, replay_text}
 use Rattle.rcp_top.proofs.HeadlineLemmas.{IsIdealFrame, ideal_frame}
+use Rattle.rcp_top.proofs.LayerLemmas.{replay_due}
 use Rattle.rcp_top.proofs.PrintedLemmas.{cut_front}
 
 -- two readings in turn give what the second gives for what the first gave
@@ -159,18 +160,10 @@ prints_ideal files file journal plan history plan_end history_end =
     (go_on files (λ plan. history_at plan journal >>= λ history. shown (ideal_text plan (sensors_of_history history))) plan (plan_at file) plan_end
     ∙ go_on files (λ history. shown (ideal_text plan (sensors_of_history history))) history (history_at plan journal) history_end)
 
--- whichever layer the last word names, the form is a replay
-replay_form : (file journal layer : List ℕ) → names_layer layer ≡ true
-    → form_of (codes "replay" ∷ file ∷ journal ∷ layer ∷ []) ≡ Some (Form.replay file journal)
-replay_form file journal layer is =
-    ap (λ (named : Bool). if named then Some (Form.replay file journal) else None) is
-
 -- so the call prints what is due for a replay
 replay_prints : (files : Files) (file journal text : List ℕ) → PrintsReplay files file journal text
     → Prints (outcome_at (end_over files (replay_of file journal))) text
-replay_prints files file journal text is =
-    let form = replay_form file journal is.0 is.1 in
-    sym (ap (λ asked. outcome_by asked files) form) ∙ is.2
+replay_prints files file journal text is = sym (replay_due files file journal is.0 is.1) ∙ is.2
 
 pub headline : ReplicasRecover → HistoriesGoByFrames → AcceptedFilesArePlans → ReplaysAreIdealUnderTheGuard
 headline recover by_frames accepted files file journal replayed is =

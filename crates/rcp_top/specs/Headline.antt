@@ -14,7 +14,8 @@ use Rattle.rcp_top.specs.declared.status.Status.TheVariants as status
 use Rattle.rcp_top.specs.Forms.{names_layer}
 use Rattle.rcp_top.specs.Outcome.{Outcome, outcome_of}
 use Rattle.rcp_top.specs.Printed.{lines_of_frame}
-use Rattle.rcp_top.specs.Replay.{meets_guard, recovery_of_plan}
+use Rattle.rcp_top.specs.Frames.{recovery_of_plan}
+use Rattle.rcp_top.specs.Replay.{meets_guard}
 
 -- this text is to be printed, and no refusal
 abbrev pub Prints : Outcome → List ℕ → Type 0
@@ -25,11 +26,16 @@ abbrev pub PrintsIdeal : Files → List ℕ → List ℕ → List ℕ → Type 0
 PrintsIdeal files file journal text =
     Prints (outcome_of (codes "ideal" ∷ file ∷ journal ∷ []) files) text
 
--- `replay FILE JOURNAL` with the word of a layer is to print this text, over these files
+-- the words `replay FILE JOURNAL`, alone or with the word of a layer
+pub data IsReplay (file journal : List ℕ) : List (List ℕ) → Type 0 where
+  alone : IsReplay file journal (codes "replay" ∷ file ∷ journal ∷ [])
+  by_layer : (layer : List ℕ) → names_layer layer ≡ true
+      → IsReplay file journal (codes "replay" ∷ file ∷ journal ∷ layer ∷ [])
+
+-- `replay FILE JOURNAL`, by whichever layer, is to print this text, over these files
 abbrev pub PrintsReplay : Files → List ℕ → List ℕ → List ℕ → Type 0
 PrintsReplay files file journal text =
-    (layer : List ℕ) × (names_layer layer ≡ true)
-    × Prints (outcome_of (codes "replay" ∷ file ∷ journal ∷ layer ∷ []) files) text
+    (words : List (List ℕ)) × IsReplay file journal words × Prints (outcome_of words files) text
 
 -- a plan and a history, as the files under these words give them
 pub record AreGiven (files : Files) (file journal : List ℕ)

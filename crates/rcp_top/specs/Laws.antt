@@ -15,6 +15,7 @@ use Rattle.task_file.specs.TaskFile.{task_file_result}
 use Rattle.trace_text.specs.PlanLines.{pattern_refused_line}
 use Rattle.rcp_top.specs.Forms.{Form, form_of}
 use Rattle.rcp_top.specs.Check.{check_text}
+use Rattle.rcp_top.specs.Headline.{IsReplay}
 use Rattle.rcp_top.specs.Outcome.{Outcome, Ends, EndsOver, outcome_of}
 
 -- where no read failed, the call ends as is due over the folder's own files
@@ -39,6 +40,7 @@ file_of (Form.check file) = file
 file_of (Form.thin file) = file
 file_of (Form.ideal file journal) = file
 file_of (Form.replay file journal) = file
+file_of (Form.events file journal order) = file
 
 -- words of a form whose task file is there and gives a plan
 pub record GivesPlan (words : List (List ℕ)) (files : Files) (form : Form) (plan : PlanParts) : Type 0 where
@@ -76,3 +78,10 @@ abbrev pub AnalysesAreRight : Type 0
 AnalysesAreRight =
     (words : List (List ℕ)) (files : Files) (file : List ℕ) (plan : PlanParts) → GivesPlan words files (Form.check file) plan
     → ((nodes : List Node) → ¬ (IsUnvotedCycle (graph_of_plan plan) nodes)) → IsAnalysed plan (outcome_of words files)
+
+-- whichever layer the words name, the outcome is the same
+abbrev pub AllLayersPrintTheSame : Type 0
+AllLayersPrintTheSame =
+    (files : Files) (file journal : List ℕ) (one other : List (List ℕ))
+    → IsReplay file journal one → IsReplay file journal other
+    → outcome_of one files ≡ outcome_of other files

@@ -6,10 +6,12 @@ pub mod PatternText
 pub mod Check
 pub mod Thin
 pub mod Ideal
+pub mod Frames
+pub mod Replay
+pub mod Events
 pub mod Forms
 pub mod Outcome
-pub mod Laws
-pub mod Replay
 pub mod Printed
 pub mod Headline
 pub mod EachFrame
+pub mod Laws

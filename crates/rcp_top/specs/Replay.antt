@@ -1,21 +1,18 @@
 -- `replay FILE JOURNAL`: the run of the replicated system, frame by frame.
 -- After NASA TM-102716; the text is this project's own.
-use Rattle.std.specs.Prelude.{◌≡◌, ◌≤◌, ℕ, suc, ◌*◌, nat_lt, Bool, true, ◌&&◌, List, [], ◌∷◌, ◌++◌, length, flat_map}
+use Rattle.std.specs.Prelude.{ℕ, suc, ◌*◌, nat_lt, Bool, true, ◌&&◌, List, [], ◌∷◌, ◌++◌, length, flat_map}
 use Rattle.std.specs.List.{range_with_len}
 use Rattle.rcp_model.specs.declared.plan.PlanParts.{PlanParts}
 use Rattle.rcp_model.specs.FrameRows.{FrameRows, is_down}
 use Rattle.rcp_model.specs.Health.{healthy_count, is_working}
 use Rattle.rcp_model.specs.History.{History}
-use Rattle.rcp_model.specs.PlanGraph.{graph_of_plan}
-use Rattle.rcp_model.specs.Shown.{recovery_length}
 use Rattle.rcp_model.specs.Slot.{actuator_at}
 use Rattle.rcp_model.specs.System.{state_after, actuator_vote}
-use Rattle.fault_journal.specs.Telling.{IsJournalOf, history_in}
 use Rattle.trace_text.specs.declared.label.Label.TheVariants as label
 use Rattle.trace_text.specs.Lines.{count_line, frame_guard_line, replica_line, vote_line}
-use Rattle.rcp_top.specs.declared.replay.Replay.{Replay}
-use Rattle.rcp_top.specs.Read.{plan_at, history_at, shown}
-use Rattle.rcp_top.specs.Reading.{Reading, ◌>>=◌}
+use Rattle.rcp_top.specs.declared.form.LayerWord.{LayerWord}
+use Rattle.rcp_top.specs.Frames.{recovery_of_plan, run_of, text_of_all}
+use Rattle.rcp_top.specs.Reading.{Reading}
 
 -- the guard after these frames, as a test
 abbrev pub meets_guard : PlanParts → ℕ → List FrameRows → Bool
@@ -51,38 +48,19 @@ replay_frame_text plan recovery rows past =
     frame_guard_line (length past) (meets_guard plan recovery (rows ∷ past))
     ++ (voted_lines plan (rows ∷ past) ++ held_lines plan recovery rows past)
 
--- the lines of these frames, oldest first, behind the frames past
-unfoldable pub replay_frames_text : PlanParts → ℕ → List FrameRows → History → List ℕ
-replay_frames_text plan recovery past [] = []
-replay_frames_text plan recovery past (rows ∷ frames) =
-    replay_frame_text plan recovery rows past
-    ++ replay_frames_text plan recovery (rows ∷ past) frames
-
 -- the text of a run over a history, all but the line of its recovery length
 abbrev pub run_text : PlanParts → ℕ → History → List ℕ
-run_text plan recovery history =
-    replay_frames_text plan recovery [] history ++ count_line label.End (length history)
+run_text plan recovery = text_of_all (replay_frame_text plan recovery)
 
 -- the text of the replicated system over a history, with this recovery length
 unfoldable pub replay_text : PlanParts → ℕ → History → List ℕ
 replay_text plan recovery history =
     count_line label.Recovery recovery ++ run_text plan recovery history
 
--- how soon the vote pattern of a plan recovers
-abbrev pub recovery_of_plan : PlanParts → ℕ
-recovery_of_plan plan = recovery_length (graph_of_plan plan)
+-- what is to be printed of a plan and a history, by whichever layer
+abbrev pub replay_for : LayerWord → PlanParts → History → List ℕ
+replay_for layer plan = replay_text plan (recovery_of_plan plan)
 
 -- what `replay FILE JOURNAL` reads, and the text that is then due
 abbrev pub replay_of : List ℕ → List ℕ → Reading (List ℕ)
-replay_of file journal = do
-  plan ← plan_at file
-  history ← history_at plan journal
-  shown (replay_text plan (recovery_of_plan plan) history)
-
--- what was found shows this text
-pub record ShowsReplay (found : Replay) (text : List ℕ) : Type 0 where
-  pub journal : IsJournalOf found.judged.plan found.journal
-  pub some : 1 ≤ found.judged.length
-  pub is :
-      let judged = found.judged in
-      text ≡ replay_text judged.plan judged.length (history_in judged.plan found.journal)
+replay_of = run_of (λ plan. replay_text plan (recovery_of_plan plan))

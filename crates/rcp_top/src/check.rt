@@ -10,6 +10,7 @@ ghost use Rattle.rcp_top.specs.Check as spec;
 ghost use Rattle.rcp_top.specs.Check.{ShowsCheck, check_of};
 
 use crate::judge::Judged;
+use crate::layers::Layers;
 use crate::pattern_text::{write_pattern, write_recovery};
 use crate::read::read_plan_at;
 use crate::send::add_made;
@@ -46,9 +47,10 @@ pub fn read_check<'a, F: Folder>(
 impl Shown for Check {
     ghost shows = { ShowsCheck };
 
-    fn write<S: Sink>(
+    fn write<S: Sink, K: Layers>(
         self,
         _alloc: Global,
+        _layers: &mut K,
         lines: &mut Lines,
         out: &mut S,
     ) -> Result<(), WriteError> {

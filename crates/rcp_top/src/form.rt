@@ -10,6 +10,15 @@ pub enum LayerWord {
     Rs,
     /// The replicas in phases, with mailboxes.
     Ds,
+    /// The replicas on clocks of their own.
+    Da,
+}
+
+/// Which of the events that are due at once is taken.
+#[derive(Clone, Copy)]
+pub enum EventOrder {
+    First,
+    Last,
 }
 
 /// A form of words.
@@ -30,6 +39,11 @@ pub enum Form<'a> {
         journal: &'a str,
         layer: LayerWord,
     },
+    Events {
+        file: &'a str,
+        journal: &'a str,
+        order: EventOrder,
+    },
 }
 
 /// The form that the words are, if they are one.
@@ -37,38 +51,71 @@ pub fn form_of(words: &[String]) -> Option<Form<'_>>
     ensures { option_map spec.form_in result ≡ spec.form_of (spec.bytes_of_words words.now) }
 {
     match words {
-        [word, file] => {
-            let file = file.as_str();
-            if word.as_str() == "check" {
-                Some(Form::Check { file })
-            } else if word.as_str() == "thin" {
-                Some(Form::Thin { file })
-            } else {
-                None
-            }
-        }
-        [word, file, journal] => {
-            if word.as_str() == "ideal" {
-                Some(Form::Ideal {
-                    file: file.as_str(),
-                    journal: journal.as_str(),
-                })
-            } else {
-                None
-            }
-        }
+        [word, file] => form_of_file(word.as_str(), file.as_str()),
+        [word, file, journal] => form_of_journal(word.as_str(), file.as_str(), journal.as_str()),
         [word, file, journal, last] => {
-            if word.as_str() == "replay" {
-                Some(Form::Replay {
-                    file: file.as_str(),
-                    journal: journal.as_str(),
-                    layer: layer_of(last.as_str())?,
-                })
-            } else {
-                None
-            }
+            form_with_last(
+                word.as_str(),
+                file.as_str(),
+                journal.as_str(),
+                last.as_str(),
+            )
         }
         _ => None,
+    }
+}
+
+// The form of a word and a task file.
+fn form_of_file<'a>(word: &str, file: &'a str) -> Option<Form<'a>>
+    ensures { option_map spec.form_in result ≡ spec.form_of_file word.now file.now }
+{
+    if word == "check" {
+        Some(Form::Check { file })
+    } else if word == "thin" {
+        Some(Form::Thin { file })
+    } else {
+        None
+    }
+}
+
+// The form of a word, a task file and a journal.
+fn form_of_journal<'a>(word: &str, file: &'a str, journal: &'a str) -> Option<Form<'a>>
+    ensures { option_map spec.form_in result ≡ spec.form_of_journal word.now file.now journal.now }
+{
+    if word == "ideal" {
+        Some(Form::Ideal { file, journal })
+    } else if word == "replay" {
+        Some(Form::Replay {
+            file,
+            journal,
+            layer: LayerWord::Da,
+        })
+    } else {
+        None
+    }
+}
+
+// The form of a word, a task file, a journal and one word more.
+fn form_with_last<'a>(word: &str, file: &'a str, journal: &'a str, last: &str) -> Option<Form<'a>>
+    ensures { option_map spec.form_in result
+        ≡ spec.form_with_last word.now file.now journal.now last.now }
+{
+    if word == "replay" {
+        let layer = layer_of(last)?;
+        Some(Form::Replay {
+            file,
+            journal,
+            layer,
+        })
+    } else if word == "events" {
+        let order = order_of(last)?;
+        Some(Form::Events {
+            file,
+            journal,
+            order,
+        })
+    } else {
+        None
     }
 }
 
@@ -76,11 +123,21 @@ pub fn form_of(words: &[String]) -> Option<Form<'_>>
 fn layer_of(word: &str) -> Option<LayerWord>
     ensures { is_some result ≡ spec.names_layer word.now }
 {
-    if word == "rs" {
-        Some(LayerWord::Rs)
-    } else if word == "ds" {
-        Some(LayerWord::Ds)
-    } else {
-        None
+    match word {
+        "rs" => Some(LayerWord::Rs),
+        "ds" => Some(LayerWord::Ds),
+        "da" => Some(LayerWord::Da),
+        _ => None,
+    }
+}
+
+// The order that a word names, if it names one.
+fn order_of(word: &str) -> Option<EventOrder>
+    ensures { result ≡ spec.order_named word.now }
+{
+    match word {
+        "first" => Some(EventOrder::First),
+        "last" => Some(EventOrder::Last),
+        _ => None,
     }
 }

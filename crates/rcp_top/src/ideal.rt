@@ -16,6 +16,7 @@ ghost use Rattle.rcp_top.specs.Finds.{Finds};
 ghost use Rattle.rcp_top.specs.Ideal as spec;
 ghost use Rattle.rcp_top.specs.Ideal.{ShowsIdeal, ideal_of};
 
+use crate::layers::Layers;
 use crate::read::{read_journal_at, read_plan_at};
 use crate::send::add;
 use crate::shown::Shown;
@@ -54,9 +55,10 @@ pub fn read_ideal<'a, F: Folder>(
 impl Shown for Ideal {
     ghost shows = { ShowsIdeal };
 
-    fn write<S: Sink>(
+    fn write<S: Sink, K: Layers>(
         self,
         alloc: Global,
+        _layers: &mut K,
         lines: &mut Lines,
         out: &mut S,
     ) -> Result<(), WriteError> {

@@ -2,7 +2,7 @@
 //! This project's own.
 ghost use Rattle.rcp_top.specs.EachFrame.{ReplaysTellEachFrame};
 ghost use Rattle.rcp_top.specs.Headline.{CutReplaysAreIdealUnderTheGuard, GuardsAreTested, ReplaysAreIdealUnderTheGuard};
-ghost use Rattle.rcp_top.specs.Laws.{AnalysesAreRight, ARunThatCanFinishDoes, NoFailedReadLeavesNoChoice, PatternsAreRefusedAtCycles};
+ghost use Rattle.rcp_top.specs.Laws.{AllLayersPrintTheSame, AnalysesAreRight, ARunThatCanFinishDoes, NoFailedReadLeavesNoChoice, PatternsAreRefusedAtCycles};
 
 use layer_stack::laws::replicas_recover;
 use rcp_model::laws::frames::histories_go_by_frames;
@@ -26,6 +26,11 @@ pub fn patterns_are_refused_at_cycles()
 /// The recovery length and the walk that `check` prints are those of the definitions.
 pub fn analyses_are_right()
     ensures { AnalysesAreRight }
+{}
+
+/// The forms of `replay` have one outcome, whichever layer their words name.
+pub fn all_layers_print_the_same()
+    ensures { AllLayersPrintTheSame }
 {}
 
 /// The guard that `replay` prints after a frame is the guard.

@@ -1,10 +1,13 @@
 //! Reads the files that the forms want. Touches no sink.
 //! This project's own.
-ghost use Rattle.std.specs.Prelude.{Ok};
+ghost use Rattle.std.specs.Prelude.{ℕ, List, Ok};
 ghost use Rattle.rcp_base.specs.States.{IsLater};
+ghost use Rattle.rcp_model.specs.History.{History};
+ghost use Rattle.rcp_model.specs.declared.plan.PlanParts.{PlanParts};
 ghost use Rattle.task_file.specs.TaskFile.{task_file_result};
 ghost use Rattle.fault_journal.specs.History.{journal_result};
 ghost use Rattle.rcp_top.specs.Finds.{Finds, IsSeenUpTo, TellsEnd};
+ghost use Rattle.rcp_top.specs.Frames.{ShowsRun, run_of};
 ghost use Rattle.rcp_top.specs.Reading.{End, file_at};
 ghost use Rattle.rcp_top.specs.Read as spec;
 ghost use Rattle.rcp_top.specs.Read.{IsJudged, IsJournal};
@@ -17,6 +20,36 @@ use rcp_model::Plan;
 use recovery_analysis::Verdict;
 use std::alloc::Global;
 use task_file::read_plan;
+
+/// A plan with its recovery length, a journal of it before its first frame, and what is asked of them.
+#[derive(Drop)]
+pub struct RunFiles<W> {
+    pub judged: Judged,
+    pub journal: Journal,
+    pub asked: W,
+}
+
+/// Reads the plan and the journal.
+pub fn read_run<'a, F: Folder, W: Copy>(
+    alloc: Global,
+    folder: &mut F,
+    file: &'a str,
+    journal: &'a str,
+    asked: W,
+) -> Result<RunFiles<W>, Stop<'a>>
+    ensures finds { (text_for : W → PlanParts → History → List ℕ)
+        → Finds (ShowsRun text_for) (F.state folder.old) (F.state folder.new)
+        (run_of (text_for asked) file.now journal.now) result }
+    ensures later { IsLater (F.state folder.old) (F.state folder.new) }
+{
+    let judged = read_plan_at(alloc, folder, file)?;
+    let journal = read_journal_at(alloc, folder, &judged.plan, journal)?;
+    Ok(RunFiles {
+        judged,
+        journal,
+        asked,
+    })
+}
 
 /// The bytes of a file, or more than the limit of them where it has more.
 fn read_file<'a, F: Folder>(

@@ -1,75 +1,47 @@
-//! `replay FILE JOURNAL` and the word of a layer: the run of the replicated system.
+//! `replay FILE JOURNAL`, alone or with the word of a layer: the run of the replicated system.
 //! After NASA TM-102716; the text is this project's own.
 ghost use Rattle.std.specs.Prelude.{◌≡◌, ◌≤◌, []};
-ghost use Rattle.rcp_base.specs.States.{IsLater};
 ghost use Rattle.rcp_base.specs.Writing.{Writes};
 ghost use Rattle.fault_journal.specs.Telling.{IsJournalOf, history_in};
 ghost use Rattle.layer_stack.specs.Run.{StandsFor};
 ghost use Rattle.rcp_model.specs.System.{initial_state};
-ghost use Rattle.rcp_top.specs.Finds.{Finds};
+ghost use Rattle.rcp_top.specs.Frames.{ShowsRun};
 ghost use Rattle.rcp_top.specs.Replay as spec;
-ghost use Rattle.rcp_top.specs.Replay.{ShowsReplay, replay_of};
+ghost use Rattle.rcp_top.specs.Replay.{replay_for};
 
 use crate::form::LayerWord;
-use crate::judge::Judged;
-use crate::read::{read_journal_at, read_plan_at};
+use crate::layers::Layers;
+use crate::read::RunFiles;
 use crate::replay_text::replay_lines;
 use crate::shown::Shown;
-use crate::stop::Stop;
-use distributed_layer::Distributed;
+use clocked_layer::Timed;
 use fault_journal::Journal;
 use layer_stack::{Layer, Run};
-use rcp_base::{Folder, Sink, WriteError};
+use rcp_base::{Sink, WriteError};
 use rcp_model::Plan;
-use replica_layer::Replicated;
 use std::alloc::Global;
 use trace_text::{Label, Lines};
 
-/// A plan with its recovery length, a journal of it before its first frame, and which layer is to run it.
-#[derive(Drop)]
-pub struct Replay {
-    pub judged: Judged,
-    pub journal: Journal,
-    pub layer: LayerWord,
-}
+impl Shown for RunFiles<LayerWord> {
+    ghost shows = { ShowsRun replay_for };
 
-/// Reads the plan and the journal.
-pub fn read_replay<'a, F: Folder>(
-    alloc: Global,
-    folder: &mut F,
-    file: &'a str,
-    journal: &'a str,
-    layer: LayerWord,
-) -> Result<Replay, Stop<'a>>
-    ensures finds { Finds ShowsReplay (F.state folder.old) (F.state folder.new)
-        (replay_of file.now journal.now) result }
-    ensures later { IsLater (F.state folder.old) (F.state folder.new) }
-{
-    let judged = read_plan_at(alloc, folder, file)?;
-    let journal = read_journal_at(alloc, folder, &judged.plan, journal)?;
-    Ok(Replay {
-        judged,
-        journal,
-        layer,
-    })
-}
-
-impl Shown for Replay {
-    ghost shows = { ShowsReplay };
-
-    fn write<S: Sink>(
+    fn write<S: Sink, K: Layers>(
         self,
         alloc: Global,
+        layers: &mut K,
         lines: &mut Lines,
         out: &mut S,
     ) -> Result<(), WriteError> {
+        let layer = self.asked;
         let mut journal = self.journal;
-        let judged = &self.judged;
-        let plan = &judged.plan;
-        let length = judged.length;
-        match self.layer {
-            LayerWord::Rs => write_in_one_step(alloc, lines, plan, length, &mut journal, out),
-            LayerWord::Ds => write_in_phases(alloc, lines, plan, length, &mut journal, out),
+        let plan = &self.judged.plan;
+        let length = self.judged.length;
+        match layer {
+            LayerWord::Rs => {
+                write_in_one_step(alloc, layers, lines, plan, length, &mut journal, out)
+            }
+            LayerWord::Ds => write_in_phases(alloc, layers, lines, plan, length, &mut journal, out),
+            LayerWord::Da => write_on_clocks(alloc, layers, lines, plan, length, &mut journal, out),
         }
     }
 }
@@ -115,8 +87,9 @@ fn write_over<L: Layer + Drop, S: Sink>(
 }
 
 // The same by the replicas in one step.
-fn write_in_one_step<S: Sink>(
+fn write_in_one_step<S: Sink, K: Layers>(
     alloc: Global,
+    layers: &mut K,
     lines: &mut Lines,
     plan: &Plan,
     length: u32,
@@ -128,13 +101,14 @@ fn write_in_one_step<S: Sink>(
     ensures { Writes (S.state out.old) (S.state out.new) result
         (spec.replay_text plan.now length (history_in plan.now journal.old)) }
 {
-    let layer = Replicated::new(alloc, plan)?;
+    let layer = layers.rs(alloc, plan)?;
     write_over(alloc, lines, plan, length, layer, journal, out)
 }
 
 // The same by the replicas in phases.
-fn write_in_phases<S: Sink>(
+fn write_in_phases<S: Sink, K: Layers>(
     alloc: Global,
+    layers: &mut K,
     lines: &mut Lines,
     plan: &Plan,
     length: u32,
@@ -146,6 +120,25 @@ fn write_in_phases<S: Sink>(
     ensures { Writes (S.state out.old) (S.state out.new) result
         (spec.replay_text plan.now length (history_in plan.now journal.old)) }
 {
-    let layer = Distributed::new(alloc, plan)?;
+    let layer = layers.ds(alloc, plan)?;
+    write_over(alloc, lines, plan, length, layer, journal, out)
+}
+
+// The same by the replicas on clocks.
+fn write_on_clocks<S: Sink, K: Layers>(
+    alloc: Global,
+    layers: &mut K,
+    lines: &mut Lines,
+    plan: &Plan,
+    length: u32,
+    journal: &mut Journal,
+    out: &mut S,
+) -> Result<(), WriteError>
+    requires length { 1 ≤ length }
+    requires journal { IsJournalOf plan.now journal.old }
+    ensures { Writes (S.state out.old) (S.state out.new) result
+        (spec.replay_text plan.now length (history_in plan.now journal.old)) }
+{
+    let layer = Timed::new(layers.da(alloc, plan)?);
     write_over(alloc, lines, plan, length, layer, journal, out)
 }

@@ -7,6 +7,7 @@ ghost use Rattle.rcp_top.specs.Finds.{TellsEnd};
 ghost use Rattle.rcp_top.specs.Outcome.{Ends, outcome_at, refused, unreadable, status_after};
 ghost use Rattle.rcp_top.specs.Reading.{End};
 
+use crate::layers::Layers;
 use crate::send::send;
 use crate::status::Status;
 use crate::stop::{Refusal, Stop};
@@ -18,17 +19,24 @@ use trace_text::Lines;
 pub trait Shown: Drop {
     ghost shows: { Self → List ℕ → Type 0 };
 
-    /// Writes the text.
-    fn write<S: Sink>(self, alloc: Global, lines: &mut Lines, out: &mut S) -> Result<(), WriteError>
+    /// Writes the text. What runs replicas runs a layer that is handed in.
+    fn write<S: Sink, K: Layers>(
+        self,
+        alloc: Global,
+        layers: &mut K,
+        lines: &mut Lines,
+        out: &mut S,
+    ) -> Result<(), WriteError>
         requires { (text : List ℕ) × shows self text }
         ensures { (text : List ℕ) → shows self text
             → Writes (S.state out.old) (S.state out.new) result text };
 }
 
 /// Writes what was found, or the line of the refusal.
-pub fn finish<T: Shown, S: Sink>(
+pub fn finish<T: Shown, S: Sink, K: Layers>(
     alloc: Global,
     found: Result<T, Stop<'_>>,
+    layers: &mut K,
     lines: &mut Lines,
     out: &mut S,
 ) -> Status
@@ -38,7 +46,7 @@ pub fn finish<T: Shown, S: Sink>(
     ensures form { result ≢ Status.Usage }
 {
     match found {
-        Ok(shown) => end(Status::Done, shown.write(alloc, lines, out)),
+        Ok(shown) => end(Status::Done, shown.write(alloc, layers, lines, out)),
         Err(Stop::Refused(refusal)) => write_refusal(refusal, lines, out),
         Err(Stop::Unreadable(word)) => { end(Status::ReadFault, send(out, lines.unreadable(word))) }
         Err(Stop::Memory) => Status::Memory,

@@ -10,6 +10,7 @@ ghost use Rattle.rcp_top.specs.Finds.{Finds};
 ghost use Rattle.rcp_top.specs.Thin as spec;
 ghost use Rattle.rcp_top.specs.Thin.{IsThinned, ShowsThin, thin_of, thinned_graph};
 
+use crate::layers::Layers;
 use crate::pattern_text::{write_pattern, write_recovery};
 use crate::read::read_plan_at;
 use crate::send::add;
@@ -86,9 +87,10 @@ fn thinned_pattern(alloc: Global, plan: &Plan) -> Result<Thinned, Memory>
 impl Shown for Thin {
     ghost shows = { ShowsThin };
 
-    fn write<S: Sink>(
+    fn write<S: Sink, K: Layers>(
         self,
         _alloc: Global,
+        _layers: &mut K,
         lines: &mut Lines,
         out: &mut S,
     ) -> Result<(), WriteError> {

@@ -1,7 +1,7 @@
 //! The one place where tests call the program.
 //! This project's own.
 use rcp_base::{MemFolder, MemSink, Memory};
-use rcp_top::{Status, rcp};
+use rcp_top::{Layers, Status, rcp, rcp_over};
 use std::alloc::Global;
 use std::process::Abort;
 use std::test::Fail;
@@ -37,6 +37,18 @@ pub fn call(
 ) -> Result<&'static str, Fail> {
     let words = words_of(alloc, line)?;
     Ok(number(rcp(alloc, words.as_slice(), folder, out)))
+}
+
+/// The same over layers that are handed in.
+pub fn call_over<K: Layers>(
+    alloc: Global,
+    line: &str,
+    folder: &mut MemFolder,
+    out: &mut MemSink,
+    layers: &mut K,
+) -> Result<&'static str, Fail> {
+    let words = words_of(alloc, line)?;
+    Ok(number(rcp_over(alloc, words.as_slice(), folder, out, layers)))
 }
 
 fn put_files(folder: &mut MemFolder, file: &[u8], journal: &[u8]) -> Result<(), Memory> {

@@ -119,8 +119,8 @@ impl Case {
     }
 }
 
-/// The words of the layers that a replay may run over.
-pub const LAYERS: [&str; 2] = ["rs", "ds"];
+/// The words of the layers that a replay may run over. It may also have none.
+pub const LAYERS: [&str; 4] = ["", "rs", "ds", "da"];
 
 /// Puts a line, with its line feed, after a text.
 pub fn put_line(text: &mut String, line: &str) -> Result<(), AllocError> {

@@ -100,9 +100,12 @@ thin T
 ideal T J
 ideal T Y
 ideal T B
+replay T J
 replay T J rs
 replay T Y rs
 replay T B rs
+events T J first
+events T Y last
 ";
 
 #[test]

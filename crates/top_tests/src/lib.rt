@@ -10,6 +10,8 @@ mod case;
 #[cfg(test)]
 mod check;
 #[cfg(test)]
+mod events;
+#[cfg(test)]
 mod files;
 #[cfg(test)]
 mod frames;
@@ -17,6 +19,8 @@ mod frames;
 mod ideal;
 #[cfg(test)]
 mod journals;
+#[cfg(test)]
+mod layers;
 #[cfg(test)]
 mod outside;
 #[cfg(test)]

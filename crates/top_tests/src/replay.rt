@@ -323,13 +323,13 @@ const GUARDED: &str = "0,sensor,cmd,10,, 0,cell,2,sum,-77, 4,end,,,,
 0,sensor,cmd,10,, 1,cell,2,err,999, 1,slot,2,1,, 5,end,,,,";
 
 // A journal with a wrong cell, and what is printed of it.
-const WRONG_CELL: &str = "frame,kind,a,b,c,d
+pub const WRONG_CELL: &str = "frame,kind,a,b,c,d
 0,sensor,cmd,10,,
 0,cell,2,sum,-77,
 4,end,,,,
 ";
 
-const WRONG_CELL_TEXT: &str = "recovery 3
+pub const WRONG_CELL_TEXT: &str = "recovery 3
 frame 0 guard yes
 vote motor 10
 replica 0 up slot 1 cells 0 10 10 working yes

@@ -21,14 +21,17 @@ check T J
 CHECK T
 thin
 thin T J
-replay T J
 replay T
-replay T J da
 replay T J xs
 replay T J RS
-replay T rs
 replay T J rs rs
+replay T J first
 ideal T J rs
+events T J
+events T first
+events T J da
+events T J FIRST
+events T J first first
 ";
 
 // A task file comes before its pattern, and that before the journal.
@@ -65,6 +68,18 @@ task file refused: E02
 unreadable: Y
 
 5 counter replay T T rs
+journal refused: J03
+
+6 counter events X Y first
+unreadable: X
+
+3 counter events B Y last
+task file refused: E02
+
+6 counter events T Y first
+unreadable: Y
+
+5 counter events T T last
 journal refused: J03"#;
 
 #[test]

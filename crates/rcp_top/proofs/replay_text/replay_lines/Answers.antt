@@ -7,7 +7,9 @@ use Rattle.layer_stack.specs.Inputs.{IsHistoryOf}
 use Rattle.layer_stack.specs.Run.{StandsFor}
 use Rattle.trace_text.specs.declared.label.Label.TheVariants as label
 use Rattle.trace_text.specs.Lines.{count_line}
-use Rattle.rcp_top.proofs.ReplayLemmas.{frame_written, run_at_end, stands_next}
+use Rattle.rcp_top.specs.Replay.{replay_frame_text}
+use Rattle.rcp_top.proofs.ReplayLemmas.{frame_replayed}
+use Rattle.rcp_top.proofs.RunLemmas.{run_at_end, stands_next}
 use Rattle.rcp_top.proofs.replay_text.replay_lines.Goals as goal
 
 pub loop-t-init : goal.loop-t-init
@@ -33,7 +35,7 @@ returns-then-is_err-clause-text g c history tells are =
     let stands = stands_next {L = g.row.L.Denot} at plan run c.run_frames.new.run history _ _ t same i.seen (omega (arith, c.run_frames.ensures.done, i.seen)) more are
     (i.stands history tells are) (c.run_frames.ensures.stands history (subst Tells (sym same) (i.told history tells))) in
     halfway_stop c.write_frame-so_far.result (sym c.is_err.ensures.value ∙ c.if-is_err.true)
-    (frame_written {L = g.row.L.Denot} at plan c.run_frames.new.run history t _ c.args.run.now.length run.input _ _
+    (frame_replayed {L = g.row.L.Denot} at plan c.run_frames.new.run history t _ c.args.run.now.length run.input _ _
     (c.run_frames.ensures.length ∙ i.bound) more stands (i.text history tells are) c.write_frame-so_far.ensures)
 
 pub loop-t-preserved : goal.loop-t-preserved
@@ -64,7 +66,7 @@ loop-t-preserved g c =
           subst Tells new_plan (c.run_frames.ensures.history history (told history tell));
       stands = stands;
       text = λ history tell are.
-          frame_written {L = g.row.L.Denot} at plan c.run_frames.new.run history t _ c.args.run.now.length run.input _ _
+          frame_replayed {L = g.row.L.Denot} at plan c.run_frames.new.run history t _ c.args.run.now.length run.input _ _
           (c.run_frames.ensures.length ∙ i.bound) (more history tell) (stands history tell are) (i.text history tell are) c.write_frame-so_far.ensures;
     }
 
@@ -77,4 +79,4 @@ returns-clause-text g c history tells are =
     let last = count_line label.End (length history) in
     let line : c.count.result.now ≡ last = c.count.ensures ∙ ap (count_line label.End) all in
     halfway_last (g.S.Sink.state c.add.new.out) c.add.result last
-    (halfway_as _ _ (run_at_end plan c.args.run.now.length history c.loop-t.t least) (i.text history tells are)) (rw line at c.add.ensures)
+    (halfway_as _ _ (run_at_end (replay_frame_text plan c.args.run.now.length) history c.loop-t.t least) (i.text history tells are)) (rw line at c.add.ensures)

@@ -4,8 +4,8 @@ use Rattle.rcp_base.specs.Adding.{IsHalfway}
 use Rattle.rcp_model.specs.History.{History, past_of}
 use Rattle.layer_stack.specs.Inputs.{IsHistoryOf}
 use Rattle.layer_stack.specs.Run.{StandsFor}
-use Rattle.rcp_top.specs.Replay.{run_text}
-use Rattle.rcp_top.proofs.ReplayLemmas.{rest_of_run}
+use Rattle.rcp_top.specs.Replay.{replay_frame_text, run_text}
+use Rattle.rcp_top.proofs.RunLemmas.{rest_of_run}
 use Rattle.rcp_top.proofs.replay_text.replay_lines.Given as goal
 
 abbrev pub invariant-loop-t : goal.invariant-loop-t
@@ -16,5 +16,5 @@ invariant-loop-t g l = record {
   told : (history : History) → g.I.Inputs.tells l.initial.inputs l.plan history → g.I.Inputs.tells l.inputs l.plan history;
   stands : (history : History) → g.I.Inputs.tells l.initial.inputs l.plan history → IsHistoryOf l.plan history → StandsFor g.L.Layer.is_at l.run (past_of history l.t);
   text : (history : History) → g.I.Inputs.tells l.initial.inputs l.plan history → IsHistoryOf l.plan history
-      → IsHalfway (g.S.Sink.state l.initial.out) (g.S.Sink.state l.out) l.so_far (rest_of_run l.plan l.fn.run.length history l.t) (run_text l.plan l.fn.run.length history);
+      → IsHalfway (g.S.Sink.state l.initial.out) (g.S.Sink.state l.out) l.so_far (rest_of_run (replay_frame_text l.plan l.fn.run.length) history l.t) (run_text l.plan l.fn.run.length history);
 }

@@ -1,9 +1,11 @@
 -- One form after the other: what was read, and what was then written.
 use Rattle.rcp_top.specs.Check.{ShowsCheck, check_of}
 use Rattle.rcp_top.specs.Ideal.{ShowsIdeal, ideal_of}
-use Rattle.rcp_top.specs.Replay.{ShowsReplay, replay_of}
+use Rattle.rcp_top.specs.Events.{events_for, events_of}
+use Rattle.rcp_top.specs.Frames.{ShowsRun}
+use Rattle.rcp_top.specs.Replay.{replay_for, replay_of}
 use Rattle.rcp_top.specs.Thin.{ShowsThin, thin_of}
-use Rattle.rcp_top.proofs.ReadingLaws.{ends_of}
+use Rattle.rcp_top.proofs.ReadingLaws.{ends_of, finds_stand_for}
 use Rattle.rcp_top.proofs.top.run_form.Goals as goal
 
 pub returns-in-Check-clause-does : goal.returns-in-Check-clause-does
@@ -16,8 +18,24 @@ returns-in-Thin-clause-does g c =
 
 pub returns-in-Ideal-clause-does : goal.returns-in-Ideal-clause-does
 returns-in-Ideal-clause-does g c =
-    rw c.in-Ideal.is (ends_of ShowsIdeal (g.F.Folder.state c.args.folder.now) (g.F.Folder.state c.read_ideal.new.folder) (ideal_of c.in-Ideal.file.now c.in-Ideal.journal.now) c.read_ideal.result _ c.read_ideal.ensures.finds c.finish-in-Ideal.ensures.ends)
+    rw c.in-Ideal.is (ends_of ShowsIdeal (g.F.Folder.state c.args.folder.now) (g.F.Folder.state c.read_ideal-found.new.folder) (ideal_of c.in-Ideal.file.now c.in-Ideal.journal.now) c.read_ideal-found.result _ c.read_ideal-found.ensures.finds c.finish-in-Ideal.ensures.ends)
 
 pub returns-in-Replay-clause-does : goal.returns-in-Replay-clause-does
 returns-in-Replay-clause-does g c =
-    rw c.in-Replay.is (ends_of ShowsReplay (g.F.Folder.state c.args.folder.now) (g.F.Folder.state c.read_replay.new.folder) (replay_of c.in-Replay.file.now c.in-Replay.journal.now) c.read_replay.result _ c.read_replay.ensures.finds c.finish-in-Replay.ensures.ends)
+    let file = c.in-Replay.file.now in
+    let journal = c.in-Replay.journal.now in
+    rw c.in-Replay.is (ends_of (ShowsRun replay_for) (g.F.Folder.state c.args.folder.now) (g.F.Folder.state c.read_run-found.new.folder) (replay_of file journal) c.read_run-found.result _ (c.read_run-found.ensures.finds replay_for) c.finish-in-Replay.ensures.ends)
+
+pub returns-in-Events-clause-does : goal.returns-in-Events-clause-does
+returns-in-Events-clause-does g c =
+    let file = c.in-Events.file.now in
+    let journal = c.in-Events.journal.now in
+    rw c.in-Events.is (ends_of (ShowsRun events_for) (g.F.Folder.state c.args.folder.now) (g.F.Folder.state c.read_run-found-in-Events.new.folder) (events_of file journal c.in-Events.order) c.read_run-found-in-Events.result _ (c.read_run-found-in-Events.ensures.finds events_for) c.finish-in-Events.ensures.ends)
+
+pub finish-requires-in-Replay : goal.finish-requires-in-Replay
+finish-requires-in-Replay g c =
+    finds_stand_for (ShowsRun replay_for) (g.F.Folder.state c.args.folder.now) (g.F.Folder.state c.read_run-found.new.folder) (replay_of c.in-Replay.file.now c.in-Replay.journal.now) c.read_run-found.result (c.read_run-found.ensures.finds replay_for)
+
+pub finish-requires-in-Events : goal.finish-requires-in-Events
+finish-requires-in-Events g c =
+    finds_stand_for (ShowsRun events_for) (g.F.Folder.state c.args.folder.now) (g.F.Folder.state c.read_run-found-in-Events.new.folder) (events_of c.in-Events.file.now c.in-Events.journal.now c.in-Events.order) c.read_run-found-in-Events.result (c.read_run-found-in-Events.ensures.finds events_for)

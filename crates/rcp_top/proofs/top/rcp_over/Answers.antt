@@ -3,7 +3,7 @@ use Rattle.std.proofs.Common.{sym, map, string_bytes}
 use Rattle.rcp_top.specs.Forms.{form_in}
 use Rattle.rcp_top.specs.Outcome.{Ends}
 use Rattle.rcp_top.proofs.EndingLemmas.{ends_memory, ends_over, read_fault_in}
-use Rattle.rcp_top.proofs.top.rcp.Goals as goal
+use Rattle.rcp_top.proofs.top.rcp_over.Goals as goal
 
 pub returns-in-Some-clause-ends : goal.returns-in-Some-clause-ends
 returns-in-Some-clause-ends g c =
