@@ -1,0 +1,1 @@
+"""The subcommands. Each module has an EXAMPLE, `add_arguments` and `run`, which gives the exit status."""
