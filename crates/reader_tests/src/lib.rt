@@ -1,5 +1,5 @@
-//! Tests of the readers of the task language, of task files and of journals, with values that were worked by hand from the
-//! rules. Lines of text are the cases.
+//! Tests of the readers of the task language, of task files and of journals, and of the generator of journals, with values
+//! that were worked by hand from the rules. Lines of text are the cases.
 //! This project's own.
 #![tactic(auto)]
 
@@ -7,6 +7,8 @@
 mod cases;
 #[cfg(test)]
 mod formats;
+#[cfg(test)]
+mod generator;
 #[cfg(test)]
 mod language;
 #[cfg(test)]

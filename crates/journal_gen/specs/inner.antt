@@ -1,0 +1,2 @@
+-- Words of private functions, which no promise cites. This project's own.
+pub mod Columns
