@@ -20,4 +20,6 @@ mod ReplayExamples
 mod ReplayLemmas
 mod RunLemmas
 mod EventLemmas
+mod SummaryLemmas
+mod NumberLemmas
 mod LayerLemmas

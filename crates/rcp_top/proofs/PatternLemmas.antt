@@ -26,6 +26,8 @@ use Rattle.rcp_top.specs.Events.{events_for}
 use Rattle.rcp_top.specs.Frames.{recovery_of_plan}
 use Rattle.rcp_top.specs.Replay.{replay_text}
 use Rattle.rcp_top.specs.Read.{plan_at, history_at, good_plan, good_history, shown}
+use Rattle.journal_gen.specs.Generator.{journal_text}
+use Rattle.rcp_top.specs.Summary.{summary_text}
 use Rattle.rcp_top.specs.Thin.{thinning_text}
 
 -- the end of two readings by the end of the first
@@ -52,6 +54,8 @@ after_plan (Form.thin file) plan = shown (thinning_text plan)
 after_plan (Form.ideal file journal) plan = history_at plan journal >>= λ history. shown (ideal_text plan (sensors_of_history history))
 after_plan (Form.replay file journal) plan = history_at plan journal >>= λ history. shown (replay_text plan (recovery_of_plan plan) history)
 after_plan (Form.events file journal order) plan = history_at plan journal >>= λ history. shown (events_for order plan history)
+after_plan (Form.gen file number frames) plan = shown (journal_text plan (recovery_of_plan plan) number frames)
+after_plan (Form.summary file journal) plan = history_at plan journal >>= λ history. shown (summary_text plan (recovery_of_plan plan) history)
 
 work_is : (form : Form) → work_of form ≡ plan_at (file_of form) >>= after_plan form
 unfolding after_plan
@@ -60,6 +64,8 @@ work_is (Form.thin file) = refl
 work_is (Form.ideal file journal) = refl
 work_is (Form.replay file journal) = refl
 work_is (Form.events file journal order) = refl
+work_is (Form.summary file journal) = refl
+work_is (Form.gen file number frames) = refl
 
 plan_end : (files : Files) (file bytes : List ℕ) (plan : PlanParts) → files file ≡ Some bytes → task_file_result bytes ≡ Ok plan
     → end_over files (plan_at file) ≡ End.gave (good_plan (Ok plan))
@@ -118,6 +124,8 @@ good_passes (Form.thin file) plan = tt
 good_passes (Form.ideal file journal) plan = none_then (history_at plan journal) _ (history_passes plan journal) (λ history. tt)
 good_passes (Form.replay file journal) plan = none_then (history_at plan journal) _ (history_passes plan journal) (λ history. tt)
 good_passes (Form.events file journal order) plan = none_then (history_at plan journal) _ (history_passes plan journal) (λ history. tt)
+good_passes (Form.gen file number frames) plan = tt
+good_passes (Form.summary file journal) plan = none_then (history_at plan journal) _ (history_passes plan journal) (λ history. tt)
 
 plan_refused : (form : Form) (plan : PlanParts) (files : Files) → IsRefusedAtCycles plan (outcome_at (end_then files (after_plan form) (End.gave (good_plan (Ok plan)))))
 plan_refused form plan files =

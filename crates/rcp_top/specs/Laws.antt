@@ -41,6 +41,8 @@ file_of (Form.thin file) = file
 file_of (Form.ideal file journal) = file
 file_of (Form.replay file journal) = file
 file_of (Form.events file journal order) = file
+file_of (Form.summary file journal) = file
+file_of (Form.gen file number frames) = file
 
 -- words of a form whose task file is there and gives a plan
 pub record GivesPlan (words : List (List ℕ)) (files : Files) (form : Form) (plan : PlanParts) : Type 0 where

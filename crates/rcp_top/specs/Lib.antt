@@ -9,6 +9,9 @@ pub mod Ideal
 pub mod Frames
 pub mod Replay
 pub mod Events
+pub mod Summary
+pub mod Number
+pub mod Generated
 pub mod Forms
 pub mod Outcome
 pub mod Printed

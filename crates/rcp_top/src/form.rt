@@ -2,6 +2,10 @@
 //! This project's own.
 ghost use Rattle.std.specs.Prelude.{◌≡◌, is_some, option_map};
 ghost use Rattle.rcp_top.specs.Forms as spec;
+ghost use Rattle.rcp_top.specs.Number.{frames_of, number_of};
+
+use crate::number::{frames_of, number_of};
+use crate::request::JournalRequest;
 
 /// Which layer a replay runs, by its last word.
 #[derive(Clone, Copy)]
@@ -20,6 +24,10 @@ pub enum EventOrder {
     First,
     Last,
 }
+
+/// What a run amounts to, in place of its frames.
+#[derive(Clone, Copy)]
+pub struct Summary;
 
 /// A form of words.
 #[derive(Clone, Copy)]
@@ -43,6 +51,14 @@ pub enum Form<'a> {
         file: &'a str,
         journal: &'a str,
         order: EventOrder,
+    },
+    Summary {
+        file: &'a str,
+        journal: &'a str,
+    },
+    Gen {
+        file: &'a str,
+        request: JournalRequest,
     },
 }
 
@@ -90,6 +106,8 @@ fn form_of_journal<'a>(word: &str, file: &'a str, journal: &'a str) -> Option<Fo
             journal,
             layer: LayerWord::Da,
         })
+    } else if word == "summary" {
+        Some(Form::Summary { file, journal })
     } else {
         None
     }
@@ -114,9 +132,22 @@ fn form_with_last<'a>(word: &str, file: &'a str, journal: &'a str, last: &str) -
             journal,
             order,
         })
+    } else if word == "gen" {
+        gen_form(file, journal, last)
     } else {
         None
     }
+}
+
+// The form that asks for a journal of a task file, if these words are a number and a number of frames.
+fn gen_form<'a>(file: &'a str, number: &str, frames: &str) -> Option<Form<'a>>
+    ensures { option_map spec.form_in result
+        ≡ spec.gen_form file.now (number_of number.now) (frames_of frames.now) }
+{
+    let number = number_of(number)?;
+    let frames = frames_of(frames)?;
+    let request = JournalRequest { number, frames };
+    Some(Form::Gen { file, request })
 }
 
 // The layer that a word names, if it names one.

@@ -8,7 +8,8 @@ ghost use Rattle.rcp_top.specs.Outcome.{Ends, EndsOver, HasUnread, outcome_at, u
 ghost use Rattle.rcp_top.specs.Reading.{Does};
 
 use crate::check::read_check;
-use crate::form::{Form, form_of};
+use crate::form::{Form, Summary, form_of};
+use crate::generated::read_gen;
 use crate::ideal::read_ideal;
 use crate::layers::{Layers, Shipped};
 use crate::read::read_run;
@@ -114,6 +115,14 @@ fn run_form<F: Folder, S: Sink, K: Layers>(
             order,
         } => {
             let found = read_run(alloc, folder, file, journal, order);
+            finish(alloc, found, layers, lines, out)
+        }
+        Form::Summary { file, journal } => {
+            let found = read_run(alloc, folder, file, journal, Summary);
+            finish(alloc, found, layers, lines, out)
+        }
+        Form::Gen { file, request } => {
+            let found = read_gen(alloc, folder, file, request);
             finish(alloc, found, layers, lines, out)
         }
     }

@@ -66,13 +66,17 @@ impl Layers for AllBut {
     }
 }
 
-// The words of each form that runs replicas, and the call that makes their layer.
+// The words of forms, and the call that makes the layer of those that run replicas.
 const FORMS: &str = "replay T J rs => rs
 replay T J ds => ds
 replay T J => da
 replay T J da => da
 events T J first => da
-events T J last => da_last";
+events T J last => da_last
+summary T J => da
+ideal T J => none
+check T => none
+gen T 7 4 => none";
 
 fn maker_named(name: &str) -> Option<Maker> {
     match name {

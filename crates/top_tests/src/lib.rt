@@ -16,6 +16,8 @@ mod files;
 #[cfg(test)]
 mod frames;
 #[cfg(test)]
+mod generated;
+#[cfg(test)]
 mod ideal;
 #[cfg(test)]
 mod journals;
@@ -25,6 +27,8 @@ mod layers;
 mod outside;
 #[cfg(test)]
 mod replay;
+#[cfg(test)]
+mod summary;
 #[cfg(test)]
 mod task_files;
 #[cfg(test)]

@@ -32,6 +32,21 @@ events T first
 events T J da
 events T J FIRST
 events T J first first
+summary T
+summary T J da
+summary T J J
+gen T
+gen T 7
+gen T 7 4 4
+gen T 18446744073709551616 4
+gen T 7 0
+gen T 7 1000001
+gen T -7 4
+gen T +7 4
+gen T 7 +4
+gen T 7 4.0
+gen T x 4
+GEN T 7 4
 ";
 
 // A task file comes before its pattern, and that before the journal.
@@ -68,6 +83,12 @@ task file refused: E02
 unreadable: Y
 
 5 counter replay T T rs
+journal refused: J03
+
+6 counter summary X Y
+unreadable: X
+
+5 counter summary T T
 journal refused: J03
 
 6 counter events X Y first

@@ -4,6 +4,8 @@ use Rattle.rcp_top.specs.Ideal.{ShowsIdeal, ideal_of}
 use Rattle.rcp_top.specs.Events.{events_for, events_of}
 use Rattle.rcp_top.specs.Frames.{ShowsRun}
 use Rattle.rcp_top.specs.Replay.{replay_for, replay_of}
+use Rattle.rcp_top.specs.Generated.{ShowsJournal, gen_of}
+use Rattle.rcp_top.specs.Summary.{summary_for, summary_of}
 use Rattle.rcp_top.specs.Thin.{ShowsThin, thin_of}
 use Rattle.rcp_top.proofs.ReadingLaws.{ends_of, finds_stand_for}
 use Rattle.rcp_top.proofs.top.run_form.Goals as goal
@@ -39,3 +41,17 @@ finish-requires-in-Replay g c =
 pub finish-requires-in-Events : goal.finish-requires-in-Events
 finish-requires-in-Events g c =
     finds_stand_for (ShowsRun events_for) (g.F.Folder.state c.args.folder.now) (g.F.Folder.state c.read_run-found-in-Events.new.folder) (events_of c.in-Events.file.now c.in-Events.journal.now c.in-Events.order) c.read_run-found-in-Events.result (c.read_run-found-in-Events.ensures.finds events_for)
+
+pub returns-in-Summary-clause-does : goal.returns-in-Summary-clause-does
+returns-in-Summary-clause-does g c =
+    let file = c.in-Summary.file.now in
+    let journal = c.in-Summary.journal.now in
+    rw c.in-Summary.is (ends_of (ShowsRun summary_for) (g.F.Folder.state c.args.folder.now) (g.F.Folder.state c.read_run-found-in-Summary.new.folder) (summary_of file journal) c.read_run-found-in-Summary.result _ (c.read_run-found-in-Summary.ensures.finds summary_for) c.finish-in-Summary.ensures.ends)
+
+pub finish-requires-in-Summary : goal.finish-requires-in-Summary
+finish-requires-in-Summary g c =
+    finds_stand_for (ShowsRun summary_for) (g.F.Folder.state c.args.folder.now) (g.F.Folder.state c.read_run-found-in-Summary.new.folder) (summary_of c.in-Summary.file.now c.in-Summary.journal.now) c.read_run-found-in-Summary.result (c.read_run-found-in-Summary.ensures.finds summary_for)
+
+pub returns-in-Gen-clause-does : goal.returns-in-Gen-clause-does
+returns-in-Gen-clause-does g c =
+    rw c.in-Gen.is (ends_of ShowsJournal (g.F.Folder.state c.args.folder.now) (g.F.Folder.state c.read_gen-found.new.folder) (gen_of c.in-Gen.file.now c.in-Gen.request.number c.in-Gen.request.frames) c.read_gen-found.result _ c.read_gen-found.ensures.finds c.finish-in-Gen.ensures.ends)
