@@ -1,5 +1,4 @@
 -- A run over a layer that goes through a journal frame by frame. This project's own.
-use Rattle.std.specs.Prelude.{ℕ}
 use Rattle.rcp_model.specs.declared.plan.PlanParts.{PlanParts}
 use Rattle.rcp_model.specs.History.{History, past_of}
 use Rattle.rcp_model.specs.System.{SystemState}

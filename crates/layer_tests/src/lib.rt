@@ -9,7 +9,11 @@ mod clocks;
 #[cfg(test)]
 mod code;
 #[cfg(test)]
+mod deliveries;
+#[cfg(test)]
 mod events;
+#[cfg(test)]
+mod kinds;
 #[cfg(test)]
 mod mailboxes;
 #[cfg(test)]

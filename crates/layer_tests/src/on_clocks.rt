@@ -1,19 +1,23 @@
 //! The replicas on clocks run the worked cases, whichever of the events that are due at once is taken.
 //! This project's own.
+ghost use Rattle.clocked_layer.specs.Stepped.{no_mail};
+ghost use Rattle.rcp_model.specs.System.{initial_state};
+
 use crate::cases::Case;
-use crate::shown::{begin, check_frames, check_start, check_votes, run_all};
-use crate::worked::{COUNTER_RUNS, MOTOR_FRAMES, MOTOR_RUNS, MOTOR_VOTES, START};
+use crate::kinds::{Kind, check_worked};
+use crate::shown::{begin, run_all};
 use clocked_layer::{Clocked, Stepped, Timed};
 use event_queue::{Event, EventKind, First, Last, Picker, Script};
 use fault_journal::Journal;
 use rcp_base::{List, Memory};
+use rcp_model::Plan;
 use std::alloc::Global;
 use std::process::Abort;
 use std::test::Fail;
 
-// A frame in which a clock and a message are off as far as healthy ones may be, with its events in the order in which the
-// first of those due is taken.
-const FIRST_LOG: &str = "motor
+/// A frame in which a clock and a message are off as far as healthy ones may be, with its events in the order in which the
+/// first of those due is taken.
+pub const FIRST_LOG: &str = "motor
 : 0,skew,2,50,,
 : 0,rate,2,100,,
 : 0,delay,2,0,2000,
@@ -87,68 +91,27 @@ const SECOND_LOG: &str = "motor
 44000 sync 1
 44054 sync 2";
 
-fn check_block<P: Picker + Drop>(
-    rt: &impl Abort,
-    alloc: Global,
-    block: &str,
+/// On clocks, with this picker.
+struct OnClocks<P> {
     picker: P,
-) -> Result<(), Fail> {
-    let case = Case::read(alloc, block)?;
-    let plan = case.plan(alloc)?;
-    let clocked = Clocked::new(alloc, &plan, picker)?;
-    check_frames(rt, alloc, &case, &plan, Timed::new(clocked))
 }
 
-fn check_all(rt: &impl Abort, alloc: Global, cases: &str) -> Result<(), Fail> {
-    for block in cases.split("\n\n") {
-        check_block(rt, alloc, block, First)?;
-        check_block(rt, alloc, block, Last)?;
+impl<P: Picker + Copy + Drop> Kind for OnClocks<P> {
+    type Made = Timed<Clocked<P>>;
+
+    fn fresh(&self, alloc: Global, plan: &Plan) -> Result<Timed<Clocked<P>>, Memory> {
+        Ok(Timed::new(Clocked::new(alloc, plan, self.picker)?))
     }
-    Ok(())
 }
 
 #[test]
-fn faults_of_the_motor_pass(rt: HostRuntime) -> Result<(), Fail> {
-    check_all(&rt, rt.alloc(), MOTOR_RUNS)
+fn where_the_first_is_taken_the_worked_cases_run(rt: HostRuntime) -> Result<(), Fail> {
+    check_worked(&rt, rt.alloc(), &OnClocks { picker: First })
 }
 
 #[test]
-fn one_frame_masks_a_fault(rt: HostRuntime) -> Result<(), Fail> {
-    check_all(&rt, rt.alloc(), MOTOR_FRAMES)
-}
-
-#[test]
-fn counters_vote_by_majority_and_median(rt: HostRuntime) -> Result<(), Fail> {
-    check_all(&rt, rt.alloc(), COUNTER_RUNS)
-}
-
-#[test]
-fn each_starts_as_the_plan_says(rt: HostRuntime) -> Result<(), Fail> {
-    let case = Case::read(rt.alloc(), START)?;
-    let plan = case.plan(rt.alloc())?;
-    let clocked = Clocked::new(rt.alloc(), &plan, First)?;
-    check_start(&rt, rt.alloc(), &case, &plan, Timed::new(clocked))
-}
-
-fn check_voted<P: Picker + Drop>(
-    rt: &impl Abort,
-    alloc: Global,
-    block: &str,
-    picker: P,
-) -> Result<(), Fail> {
-    let case = Case::read(alloc, block)?;
-    let plan = case.plan(alloc)?;
-    let clocked = Clocked::new(alloc, &plan, picker)?;
-    check_votes(rt, alloc, &case, &plan, Timed::new(clocked))
-}
-
-#[test]
-fn each_votes_what_it_hears(rt: HostRuntime) -> Result<(), Fail> {
-    for block in MOTOR_VOTES.split("\n\n") {
-        check_voted(&rt, rt.alloc(), block, First)?;
-        check_voted(&rt, rt.alloc(), block, Last)?;
-    }
-    Ok(())
+fn where_the_last_is_taken_the_worked_cases_run(rt: HostRuntime) -> Result<(), Fail> {
+    check_worked(&rt, rt.alloc(), &OnClocks { picker: Last })
 }
 
 fn name_of(kind: EventKind) -> &'static str {
@@ -180,7 +143,23 @@ fn check_events(rt: &impl Abort, alloc: Global, log: &[Event], due: &str) -> Res
     Ok(())
 }
 
-// The events of the last frame are those of the block, in its order.
+// The events of the last frame of a case are those that it says, in its order.
+fn check_last_log<B: Stepped + Drop>(
+    rt: &impl Abort,
+    alloc: Global,
+    case: &Case,
+    plan: &Plan,
+    block: B,
+) -> Result<(), Fail>
+    requires { B.rests block plan.now (initial_state plan.now) no_mail }
+{
+    let mut journal = Journal::check(alloc, plan, case.journal.as_bytes())?;
+    let mut run = begin(alloc, plan, 3, Timed::new(block), &journal)?;
+    run_all(rt, &mut run, &mut journal);
+    check_events(rt, alloc, run.layer().block().log(), case.due.as_str())
+}
+
+// The same of replicas on clocks with this picker.
 fn check_log<P: Picker + Drop>(
     rt: &impl Abort,
     alloc: Global,
@@ -189,11 +168,8 @@ fn check_log<P: Picker + Drop>(
 ) -> Result<(), Fail> {
     let case = Case::read(alloc, block)?;
     let plan = case.plan(alloc)?;
-    let mut journal = Journal::check(alloc, &plan, case.journal.as_bytes())?;
     let clocked = Clocked::new(alloc, &plan, picker)?;
-    let mut run = begin(alloc, &plan, 3, Timed::new(clocked), &journal)?;
-    run_all(rt, &mut run, &mut journal);
-    check_events(rt, alloc, run.layer().block().log(), case.due.as_str())
+    check_last_log(rt, alloc, &case, &plan, clocked)
 }
 
 fn one(alloc: Global, answer: u32) -> Result<List<u32>, Memory> {

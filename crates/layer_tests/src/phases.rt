@@ -5,67 +5,31 @@ ghost use Rattle.distributed_layer.specs.Comparing.{AreBothAt};
 ghost use Rattle.rcp_model.specs.System.{SystemState, initial_state};
 
 use crate::cases::Case;
-use crate::shown::{check_frames, check_start, check_votes};
-use crate::worked::{COUNTER_RUNS, MOTOR_FRAMES, MOTOR_RUNS, MOTOR_VOTES, START};
+use crate::kinds::{Kind, check_worked};
+use crate::replicas::InOneStep;
+use crate::worked::START;
 use distributed_layer::{Distributed, frame_of_both, tell_the_same};
 use layer_stack::{FrameIn, Layer};
 use rcp_base::Memory;
 use rcp_model::Plan;
-use replica_layer::Replicated;
 use std::alloc::Global;
 use std::process::Abort;
 use std::test::Fail;
 
-fn check_block(rt: &impl Abort, alloc: Global, block: &str) -> Result<(), Fail> {
-    let case = Case::read(alloc, block)?;
-    let plan = case.plan(alloc)?;
-    let layer = Distributed::new(alloc, &plan)?;
-    check_frames(rt, alloc, &case, &plan, layer)
-}
+/// In phases.
+struct InPhases;
 
-fn check_all(rt: &impl Abort, alloc: Global, cases: &str) -> Result<(), Fail> {
-    for block in cases.split("\n\n") {
-        check_block(rt, alloc, block)?;
+impl Kind for InPhases {
+    type Made = Distributed;
+
+    fn fresh(&self, alloc: Global, plan: &Plan) -> Result<Distributed, Memory> {
+        Distributed::new(alloc, plan)
     }
-    Ok(())
 }
 
 #[test]
-fn in_phases_faults_of_the_motor_pass(rt: HostRuntime) -> Result<(), Fail> {
-    check_all(&rt, rt.alloc(), MOTOR_RUNS)
-}
-
-#[test]
-fn in_phases_one_frame_masks_a_fault(rt: HostRuntime) -> Result<(), Fail> {
-    check_all(&rt, rt.alloc(), MOTOR_FRAMES)
-}
-
-#[test]
-fn in_phases_counters_vote_by_majority_and_median(rt: HostRuntime) -> Result<(), Fail> {
-    check_all(&rt, rt.alloc(), COUNTER_RUNS)
-}
-
-#[test]
-fn in_phases_each_starts_as_the_plan_says(rt: HostRuntime) -> Result<(), Fail> {
-    let case = Case::read(rt.alloc(), START)?;
-    let plan = case.plan(rt.alloc())?;
-    let layer = Distributed::new(rt.alloc(), &plan)?;
-    check_start(&rt, rt.alloc(), &case, &plan, layer)
-}
-
-fn check_voted(rt: &impl Abort, alloc: Global, block: &str) -> Result<(), Fail> {
-    let case = Case::read(alloc, block)?;
-    let plan = case.plan(alloc)?;
-    let layer = Distributed::new(alloc, &plan)?;
-    check_votes(rt, alloc, &case, &plan, layer)
-}
-
-#[test]
-fn in_phases_each_votes_what_it_hears(rt: HostRuntime) -> Result<(), Fail> {
-    for block in MOTOR_VOTES.split("\n\n") {
-        check_voted(&rt, rt.alloc(), block)?;
-    }
-    Ok(())
+fn in_phases_the_worked_cases_run(rt: HostRuntime) -> Result<(), Fail> {
+    check_worked(&rt, rt.alloc(), &InPhases)
 }
 
 // Of each cell, of the first actuator and of a sender.
@@ -98,7 +62,7 @@ fn check_frame<L: Layer + Drop, M: Layer + Drop>(
     plan: &Plan,
     mut one: L,
     mut other: M,
-) -> Result<(), Memory>
+) -> Result<(), Fail>
     requires one { L.is_at one plan.now (initial_state plan.now) }
     requires other { M.is_at other plan.now (initial_state plan.now) }
 {
@@ -111,23 +75,34 @@ fn check_frame<L: Layer + Drop, M: Layer + Drop>(
     Ok(())
 }
 
-fn check_against_phases<L: Layer + Drop>(
+// A layer tells the same as a fresh one of a kind.
+fn check_against<L: Layer + Drop, M: Kind>(
     rt: &impl Abort,
     alloc: Global,
     plan: &Plan,
     one: L,
-) -> Result<(), Memory>
+    kind: &M,
+) -> Result<(), Fail>
     requires { L.is_at one plan.now (initial_state plan.now) }
 {
-    let other = Distributed::new(alloc, plan)?;
+    let other = kind.fresh(alloc, plan)?;
     check_frame(rt, alloc, plan, one, other)
+}
+
+// Fresh layers of two kinds tell the same.
+fn check_kinds<K: Kind, M: Kind>(
+    rt: &impl Abort,
+    alloc: Global,
+    one: &K,
+    other: &M,
+) -> Result<(), Fail> {
+    let case = Case::read(alloc, START)?;
+    let plan = case.plan(alloc)?;
+    let layer = one.fresh(alloc, &plan)?;
+    check_against(rt, alloc, &plan, layer, other)
 }
 
 #[test]
 fn in_one_step_and_in_phases_the_same_is_told(rt: HostRuntime) -> Result<(), Fail> {
-    let case = Case::read(rt.alloc(), START)?;
-    let plan = case.plan(rt.alloc())?;
-    let layer = Replicated::new(rt.alloc(), &plan)?;
-    check_against_phases(&rt, rt.alloc(), &plan, layer)?;
-    Ok(())
+    check_kinds(&rt, rt.alloc(), &InOneStep, &InPhases)
 }
