@@ -1,7 +1,10 @@
 //! Timings and the first rule that they break, and moments, with values worked by hand.
 //! This project's own.
+ghost use Rattle.rcp_model.specs.TimingRules.{AreInRange};
+
 use clock_model::{arrival, begin, check_timing, delay_limit, in_window, send, sync, vote};
 use rcp_model::Timing;
+use std::process::Abort;
 
 // Drift over `compute` is 30000 * 100 / 1000000 = 3 ticks, over `compute + broadcast` 40000 * 100 / 1000000 = 4.
 // At the limit it is 30000 * 500 / 1000000 = 15 ticks over `compute`, 22 over 44000 ticks.
@@ -18,169 +21,194 @@ const TIMING: Timing = Timing {
     drift_limit_ppm: 500,
 };
 
+// The first rule that a timing breaks is this one, or it breaks none.
+fn check(rt: &impl Abort, timing: &Timing, due: Result<(), u8>)
+    requires { AreInRange timing.now }
+{
+    assert_eq!(rt; check_timing(timing), due, "{timing:?}");
+}
+
 #[test]
 fn a_timing_passes(rt: HostRuntime) {
-    assert_eq!(rt; check_timing(&TIMING), Ok(()));
+    check(&rt, &TIMING, Ok(()));
     // 50000 - 2 * 500 - 2 * 15 - 1.
     assert_eq!(rt; delay_limit(&TIMING), 48_969);
 }
 
 #[test]
 fn empty_phases_break_the_first_rule(rt: HostRuntime) {
-    assert_eq!(rt;
-        check_timing(&Timing {
+    check(
+        &rt,
+        &Timing {
             compute: 0,
             ..TIMING
-        }),
-        Err(1)
+        },
+        Err(1),
     );
-    assert_eq!(rt;
-        check_timing(&Timing {
+    check(
+        &rt,
+        &Timing {
             broadcast: 0,
             ..TIMING
-        }),
-        Err(1)
+        },
+        Err(1),
     );
-    assert_eq!(rt; check_timing(&Timing { vote: 0, ..TIMING }), Err(1));
-    assert_eq!(rt; check_timing(&Timing { sync: 0, ..TIMING }), Err(1));
+    check(&rt, &Timing { vote: 0, ..TIMING }, Err(1));
+    check(&rt, &Timing { sync: 0, ..TIMING }, Err(1));
 }
 
 #[test]
 fn late_messages_break_the_second_rule(rt: HostRuntime) {
     // 50 + 3 + 4 + 9943 is 10000.
-    assert_eq!(rt;
-        check_timing(&Timing {
+    check(
+        &rt,
+        &Timing {
             delay_max: 9_943,
             ..TIMING
-        }),
-        Ok(())
+        },
+        Ok(()),
     );
-    assert_eq!(rt;
-        check_timing(&Timing {
+    check(
+        &rt,
+        &Timing {
             delay_max: 9_944,
             ..TIMING
-        }),
-        Err(2)
+        },
+        Err(2),
     );
 }
 
 #[test]
 fn early_messages_break_the_third_rule(rt: HostRuntime) {
     // Drift over 20 ticks is 0.002, so 1. 50 + 1 is 20 + 31.
-    assert_eq!(rt;
-        check_timing(&Timing {
+    check(
+        &rt,
+        &Timing {
             compute: 20,
             delay_min: 31,
             ..TIMING
-        }),
-        Ok(())
+        },
+        Ok(()),
     );
-    assert_eq!(rt;
-        check_timing(&Timing {
+    check(
+        &rt,
+        &Timing {
             compute: 20,
             delay_min: 30,
             ..TIMING
-        }),
-        Err(3)
+        },
+        Err(3),
     );
 }
 
 #[test]
 fn a_short_sync_breaks_the_fourth_rule(rt: HostRuntime) {
     // 2 * 500 + 22 is 1022. At 501 parts per million the drift is 22.044, so 23.
-    assert_eq!(rt;
-        check_timing(&Timing {
+    check(
+        &rt,
+        &Timing {
             sync: 1_023,
             ..TIMING
-        }),
-        Ok(())
+        },
+        Ok(()),
     );
-    assert_eq!(rt;
-        check_timing(&Timing {
+    check(
+        &rt,
+        &Timing {
             sync: 1_022,
             ..TIMING
-        }),
-        Err(4)
+        },
+        Err(4),
     );
-    assert_eq!(rt;
-        check_timing(&Timing {
+    check(
+        &rt,
+        &Timing {
             sync: 1_024,
             drift_limit_ppm: 501,
             ..TIMING
-        }),
-        Ok(())
+        },
+        Ok(()),
     );
-    assert_eq!(rt;
-        check_timing(&Timing {
+    check(
+        &rt,
+        &Timing {
             sync: 1_023,
             drift_limit_ppm: 501,
             ..TIMING
-        }),
-        Err(4)
+        },
+        Err(4),
     );
 }
 
 #[test]
 fn wide_skew_and_drift_break_the_fifth_rule(rt: HostRuntime) {
-    assert_eq!(rt;
-        check_timing(&Timing {
+    check(
+        &rt,
+        &Timing {
             skew: 500,
             ..TIMING
-        }),
-        Ok(())
+        },
+        Ok(()),
     );
-    assert_eq!(rt;
-        check_timing(&Timing {
+    check(
+        &rt,
+        &Timing {
             skew: 501,
             ..TIMING
-        }),
-        Err(5)
+        },
+        Err(5),
     );
-    assert_eq!(rt;
-        check_timing(&Timing {
+    check(
+        &rt,
+        &Timing {
             drift_ppm: 500,
             ..TIMING
-        }),
-        Ok(())
+        },
+        Ok(()),
     );
-    assert_eq!(rt;
-        check_timing(&Timing {
+    check(
+        &rt,
+        &Timing {
             drift_ppm: 501,
             ..TIMING
-        }),
-        Err(5)
+        },
+        Err(5),
     );
 }
 
 #[test]
 fn wide_limits_and_delays_break_the_fifth_rule(rt: HostRuntime) {
-    assert_eq!(rt;
-        check_timing(&Timing {
+    check(
+        &rt,
+        &Timing {
             drift_limit_ppm: 1_000,
             ..TIMING
-        }),
-        Ok(())
+        },
+        Ok(()),
     );
-    assert_eq!(rt;
-        check_timing(&Timing {
+    check(
+        &rt,
+        &Timing {
             drift_limit_ppm: 1_001,
             ..TIMING
-        }),
-        Err(5)
+        },
+        Err(5),
     );
-    assert_eq!(rt;
-        check_timing(&Timing {
+    check(
+        &rt,
+        &Timing {
             delay_min: 2_000,
             ..TIMING
-        }),
-        Ok(())
+        },
+        Ok(()),
     );
-    assert_eq!(rt;
-        check_timing(&Timing {
+    check(
+        &rt,
+        &Timing {
             delay_min: 2_001,
             ..TIMING
-        }),
-        Err(5)
+        },
+        Err(5),
     );
 }
 
@@ -199,7 +227,7 @@ fn the_ends_of_the_ranges_are_tested(rt: HostRuntime) {
         drift_limit_ppm: 0,
     };
     // Each rule is 0 against 1 or 0 against 0, but for the greatest delay, 4 - 1.
-    assert_eq!(rt; check_timing(&least), Ok(()));
+    check(&rt, &least, Ok(()));
     assert_eq!(rt; delay_limit(&least), 3);
     let most = 1_000_000_000;
     let greatest = Timing {
@@ -215,7 +243,7 @@ fn the_ends_of_the_ranges_are_tested(rt: HostRuntime) {
         drift_limit_ppm: most,
     };
     // A clock drifts a thousand times the ticks. 4 * 10^9 - 2 * 10^9 - 2 * 10^12 - 1.
-    assert_eq!(rt; check_timing(&greatest), Err(2));
+    check(&rt, &greatest, Err(2));
     assert_eq!(rt; delay_limit(&greatest), -1_998_000_000_001);
 }
 

@@ -10,6 +10,7 @@ use rcp_model::{Expr, LetRow, Op, SetRow, Task};
 use sqlite_items::Boxed;
 use std::alloc::Global;
 use std::marker::Brand;
+use std::process::Abort;
 use std::sync::ledger::{Blank, Ledger};
 use std::test::Fail;
 use task_code::{Runner, Steps, compile, compile_expr};
@@ -76,6 +77,11 @@ fn two(alloc: Global, op: Op, a: i64, b: i64) -> Result<i64, Memory> {
     value_of(alloc, &e, &[], &[])
 }
 
+fn check_two(rt: &impl Abort, alloc: Global, op: Op, a: i64, b: i64, due: i64) -> Result<(), Fail> {
+    assert_eq!(rt; two(alloc, op, a, b)?, due, "{a} and {b}");
+    Ok(())
+}
+
 fn clamp(alloc: Global, x: i64, low: i64, high: i64) -> Result<i64, Memory> {
     let e = Expr::Clamp(number(alloc, x)?, number(alloc, low)?, number(alloc, high)?);
     value_of(alloc, &e, &[], &[])
@@ -131,22 +137,21 @@ fn a_task_gives_a_value_for_each_set(rt: HostRuntime) -> Result<(), Fail> {
 #[test]
 fn quotients_are_cut_toward_zero(rt: HostRuntime) -> Result<(), Fail> {
     let alloc = rt.alloc();
-    assert_eq!(rt; two(alloc, Op::Div, -7, 2)?, -3);
-    assert_eq!(rt; two(alloc, Op::Rem, -7, 2)?, -1);
-    assert_eq!(rt; two(alloc, Op::Div, 5, 0)?, 0);
-    assert_eq!(rt; two(alloc, Op::Rem, 5, 0)?, 0);
-    assert_eq!(rt; two(alloc, Op::Div, i64::MIN, -1)?, i64::MAX);
-    Ok(())
+    check_two(&rt, alloc, Op::Div, -7, 2, -3)?;
+    check_two(&rt, alloc, Op::Rem, -7, 2, -1)?;
+    check_two(&rt, alloc, Op::Div, 5, 0, 0)?;
+    check_two(&rt, alloc, Op::Rem, 5, 0, 0)?;
+    check_two(&rt, alloc, Op::Div, i64::MIN, -1, i64::MAX)
 }
 
 #[test]
 fn every_number_but_zero_is_true(rt: HostRuntime) -> Result<(), Fail> {
     let alloc = rt.alloc();
-    assert_eq!(rt; two(alloc, Op::And, 2, -3)?, 1);
-    assert_eq!(rt; two(alloc, Op::And, 2, 0)?, 0);
-    assert_eq!(rt; two(alloc, Op::Or, 0, 5)?, 1);
-    assert_eq!(rt; two(alloc, Op::Lt, 1, 2)?, 1);
-    assert_eq!(rt; two(alloc, Op::Ge, 1, 2)?, 0);
+    check_two(&rt, alloc, Op::And, 2, -3, 1)?;
+    check_two(&rt, alloc, Op::And, 2, 0, 0)?;
+    check_two(&rt, alloc, Op::Or, 0, 5, 1)?;
+    check_two(&rt, alloc, Op::Lt, 1, 2, 1)?;
+    check_two(&rt, alloc, Op::Ge, 1, 2, 0)?;
     assert_eq!(rt; opposite(alloc, 7)?, 0);
     assert_eq!(rt; opposite(alloc, 0)?, 1);
     assert_eq!(rt; choice(alloc, -9)?, 1);
