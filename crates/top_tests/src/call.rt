@@ -39,6 +39,35 @@ pub fn call(
     Ok(number(rcp(alloc, words.as_slice(), folder, out)))
 }
 
+/// The words of each form that reads the task file T alone.
+pub const FORMS_OF_FILE: &str = "check T
+thin T
+gen T 7 4";
+
+/// The words of each form that reads the journal J too.
+pub const FORMS_OF_JOURNAL: &str = "ideal T J
+replay T J
+replay T J rs
+replay T J ds
+replay T J da
+events T J first
+events T J last
+summary T J";
+
+/// Each of these forms answers so over these files.
+pub fn check_forms(
+    rt: &impl Abort,
+    alloc: Global,
+    forms: &str,
+    files: (&[u8], &[u8]),
+    due: (&str, &str),
+) -> Result<(), Fail> {
+    for line in forms.lines() {
+        check(rt, alloc, line, files, due)?;
+    }
+    Ok(())
+}
+
 /// The same over layers that are handed in.
 pub fn call_over<K: Layers>(
     alloc: Global,

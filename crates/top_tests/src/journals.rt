@@ -1,6 +1,6 @@
 //! Journals that are accepted, and the first fault of others. Rows stand apart by slashes here, without the header.
 //! This project's own.
-use crate::call::{check, check_runs};
+use crate::call::{FORMS_OF_JOURNAL, check_forms, check_runs};
 use crate::case::parted;
 use example_plans::MOTOR;
 use std::alloc::{AllocError, Global};
@@ -160,11 +160,11 @@ fn journal_of(alloc: Global, rows: &str) -> Result<String, AllocError> {
     format!(in alloc; "frame,kind,a,b,c,d\n{}\n", rows.as_str())
 }
 
-// The motor does not run over this journal, which has this fault.
+// The motor runs over this journal in no form, for this fault.
 fn check_fault(rt: &impl Abort, alloc: Global, journal: &[u8], fault: &str) -> Result<(), Fail> {
     let text = format!(in alloc; "journal refused: {fault}\n")?;
     let files = (MOTOR.as_bytes(), journal);
-    check(rt, alloc, "ideal T J", files, ("5", text.as_str()))
+    check_forms(rt, alloc, FORMS_OF_JOURNAL, files, ("5", text.as_str()))
 }
 
 fn check_accepted(rt: &impl Abort, alloc: Global, rows: &str) -> Result<(), Fail> {

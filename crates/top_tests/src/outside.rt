@@ -70,13 +70,21 @@ recovery 1
 walk -
 ";
 
+// How many bytes a failing write has taken.
+const TAKEN: u32 = 3;
+
 fn sink_failing_at(alloc: Global, write: u32) -> Result<MemSink, Memory> {
     let mut out = MemSink::new(alloc);
-    out.fail_at(write, 0)?;
+    out.fail_at(write, TAKEN)?;
     Ok(out)
 }
 
-// Where the write with this number fails before its first byte, this text was written.
+// What was written of a line that failed.
+fn front_of(line: &str) -> &str {
+    line.get(..TAKEN as usize).unwrap_or(line)
+}
+
+// Where the write with this number fails after three bytes, this text was written.
 fn check_front(
     rt: &impl Abort,
     alloc: Global,
@@ -100,14 +108,16 @@ fn check_fronts(
 ) -> Result<(), Fail> {
     let mut write = 1u32;
     for next in text.lines() {
-        check_front(rt, alloc, line, files, write, ("7", written.as_str()))?;
+        let front = format!(in alloc; "{}{}", written.as_str(), front_of(next))?;
+        check_front(rt, alloc, line, files, write, ("7", front.as_str()))?;
         put_line(written, next)?;
         write = write.saturating_add(1);
     }
     check_front(rt, alloc, line, files, write, ("0", written.as_str()))
 }
 
-/// Over these two files, before each write the lines so far were written, and after the last all of them.
+/// Over these two files, where a write fails after three bytes, these and the lines before were written, and where none fails all
+/// of them.
 pub fn lines_are_writes(
     rt: &impl Abort,
     alloc: Global,

@@ -371,7 +371,15 @@ fn counters_run_as_worked(rt: HostRuntime) -> Result<(), Fail> {
 #[test]
 fn each_line_of_a_replay_is_one_write(rt: HostRuntime) -> Result<(), Fail> {
     let files = (MOTOR.as_bytes(), WRONG_CELL.as_bytes());
-    lines_are_writes(&rt, rt.alloc(), "replay T J rs", files, WRONG_CELL_TEXT)
+    for line in [
+        "replay T J",
+        "replay T J rs",
+        "replay T J ds",
+        "replay T J da",
+    ] {
+        lines_are_writes(&rt, rt.alloc(), line, files, WRONG_CELL_TEXT)?;
+    }
+    Ok(())
 }
 
 // The journal with these rows, which spaces part.

@@ -1,6 +1,6 @@
 //! Task files that are accepted, and the first fault of others.
 //! This project's own.
-use crate::call::{check, check_runs};
+use crate::call::{FORMS_OF_FILE, FORMS_OF_JOURNAL, check_forms, check_runs};
 use crate::case::{changed_often, parted, replaced};
 use crate::files::TWO_FRAMES;
 use example_plans::{COUNTER, MOTOR};
@@ -151,11 +151,13 @@ fn have_faults(rt: &impl Abort, alloc: Global, file: &str, lines: &str) -> Resul
     Ok(())
 }
 
-// The journal is missing, which is not seen.
+// No form runs over this file, which has this fault. That the journal has a fault too is not seen.
 fn check_fault(rt: &impl Abort, alloc: Global, file: &[u8], fault: &str) -> Result<(), Fail> {
     let text = format!(in alloc; "task file refused: {fault}\n")?;
-    let files = (file, TWO_FRAMES.as_bytes());
-    check(rt, alloc, "ideal T Y", files, ("3", text.as_str()))
+    let files = (file, b"no journal".as_slice());
+    let due = ("3", text.as_str());
+    check_forms(rt, alloc, FORMS_OF_FILE, files, due)?;
+    check_forms(rt, alloc, FORMS_OF_JOURNAL, files, due)
 }
 
 #[test]
