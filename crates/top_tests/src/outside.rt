@@ -79,9 +79,10 @@ fn sink_failing_at(alloc: Global, write: u32) -> Result<MemSink, Memory> {
     Ok(out)
 }
 
-// What was written of a line that failed.
-fn front_of(line: &str) -> &str {
-    line.get(..TAKEN as usize).unwrap_or(line)
+// What was written where the write of this line failed.
+fn front_with(alloc: Global, written: &str, line: &str) -> Result<String, Fail> {
+    let front = line.get(..TAKEN as usize).unwrap_or(line);
+    Ok(format!(in alloc; "{written}{front}")?)
 }
 
 // Where the write with this number fails after three bytes, this text was written.
@@ -108,7 +109,7 @@ fn check_fronts(
 ) -> Result<(), Fail> {
     let mut write = 1u32;
     for next in text.lines() {
-        let front = format!(in alloc; "{}{}", written.as_str(), front_of(next))?;
+        let front = front_with(alloc, written.as_str(), next)?;
         check_front(rt, alloc, line, files, write, ("7", front.as_str()))?;
         put_line(written, next)?;
         write = write.saturating_add(1);
