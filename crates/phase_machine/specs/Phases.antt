@@ -10,6 +10,7 @@ use Rattle.rcp_model.specs.System.{SystemState}
 use Rattle.rcp_model.specs.Uniprocessor.{ProcessorState}
 use Rattle.replica_parts.specs.Ballots.{IsBallotOrNone}
 use Rattle.phase_machine.specs.Body.{IsBodyOf, heard_with}
+use Rattle.phase_machine.specs.declared.body.Body.{Body}
 use Rattle.phase_machine.specs.declared.computing.Computing.{Computing}
 use Rattle.phase_machine.specs.declared.sending.Sending.{Sending}
 use Rattle.phase_machine.specs.declared.voting.Voting.{Voting}
@@ -59,35 +60,46 @@ abbrev pub evaluated_over : PlanParts → List ℤ → Ballot → ℕ → ℤ
 evaluated_over plan sensors ballot actuator =
     actuator_value (actuator_at plan actuator) sensors ballot.cells
 
--- it has this before a frame
-pub record IsComputing
-    (plan : PlanParts) (replica : ℕ) (phase : Computing) (before : BeforeFrame) : Type 0 where
-  pub body : IsBodyOf plan replica phase.body
-  pub held : phase.body.held ≡ before.held
-  pub boxes : box_of phase.body.boxes ≡ before.boxes
-  pub voted : IsBallotOrNone plan.replicas phase.body.ballot before.voted
-  pub commands : phase.body.commands.items ≡ table (length plan.actuators) before.commands
+-- a body that has this before a frame
+pub record OwnsBefore
+    (plan : PlanParts) (replica : ℕ) (owned : Body) (before : BeforeFrame) : Type 0 where
+  pub body : IsBodyOf plan replica owned
+  pub held : owned.held ≡ before.held
+  pub boxes : box_of owned.boxes ≡ before.boxes
+  pub voted : IsBallotOrNone plan.replicas owned.ballot before.voted
+  pub commands : owned.commands.items ≡ table (length plan.actuators) before.commands
 
--- it has this when it has computed
-pub record IsSending
-    (plan : PlanParts) (replica : ℕ) (phase : Sending) (has : HasComputed) : Type 0 where
-  pub body : IsBodyOf plan replica phase.body
-  pub computed : phase.body.computed ≡ has.computed
-  pub boxes : box_of phase.body.boxes ≡ has.boxes
+-- one that has this when it has computed
+pub record OwnsComputed
+    (plan : PlanParts) (replica : ℕ) (owned : Body) (has : HasComputed) : Type 0 where
+  pub body : IsBodyOf plan replica owned
+  pub computed : owned.computed ≡ has.computed
+  pub boxes : box_of owned.boxes ≡ has.boxes
 
--- it has this when it has sent
-pub record IsVoting
-    (plan : PlanParts) (replica : ℕ) (phase : Voting) (has : HasSent) : Type 0 where
-  pub body : IsBodyOf plan replica phase.body
-  pub computed : phase.body.computed ≡ has.computed
-  pub own : phase.body.own ≡ has.own
-  pub boxes : box_of phase.body.boxes ≡ has.boxes
+-- one that has this when it has sent
+pub record OwnsSent (plan : PlanParts) (replica : ℕ) (owned : Body) (has : HasSent) : Type 0 where
+  pub body : IsBodyOf plan replica owned
+  pub computed : owned.computed ≡ has.computed
+  pub own : owned.own ≡ has.own
+  pub boxes : box_of owned.boxes ≡ has.boxes
 
--- it has this when it has voted
-pub record IsSyncing
-    (plan : PlanParts) (replica : ℕ) (phase : Syncing) (has : HasVoted) : Type 0 where
-  pub body : IsBodyOf plan replica phase.body
-  pub voted : IsBallotOrNone plan.replicas phase.body.ballot (Some has.ballot)
-  pub commands : phase.body.commands.items
+-- one that has this when it has voted
+pub record OwnsVoted (plan : PlanParts) (replica : ℕ) (owned : Body) (has : HasVoted) : Type 0 where
+  pub body : IsBodyOf plan replica owned
+  pub voted : IsBallotOrNone plan.replicas owned.ballot (Some has.ballot)
+  pub commands : owned.commands.items
       ≡ table (length plan.actuators) (λ actuator. Some (has.commands actuator))
-  pub boxes : box_of phase.body.boxes ≡ has.boxes
+  pub boxes : box_of owned.boxes ≡ has.boxes
+
+-- the body in each phase's box has what is due then
+abbrev pub IsComputing : PlanParts → ℕ → Computing → BeforeFrame → Type 0
+IsComputing plan replica phase before = OwnsBefore plan replica phase.body.value before
+
+abbrev pub IsSending : PlanParts → ℕ → Sending → HasComputed → Type 0
+IsSending plan replica phase has = OwnsComputed plan replica phase.body.value has
+
+abbrev pub IsVoting : PlanParts → ℕ → Voting → HasSent → Type 0
+IsVoting plan replica phase has = OwnsSent plan replica phase.body.value has
+
+abbrev pub IsSyncing : PlanParts → ℕ → Syncing → HasVoted → Type 0
+IsSyncing plan replica phase has = OwnsVoted plan replica phase.body.value has

@@ -10,7 +10,7 @@ ghost use Rattle.replica_parts.specs.Setting.{HasPlan};
 ghost use Rattle.replica_parts.specs.States.{message_of};
 ghost use Rattle.vote_pattern.specs.Votes.{is_in};
 ghost use Rattle.phase_machine.specs.Body.{HasBodyRoom};
-ghost use Rattle.phase_machine.specs.Phases.{HasComputed, IsSending, IsVoting};
+ghost use Rattle.phase_machine.specs.Phases.{HasComputed, IsSending, IsVoting, OwnsComputed, OwnsSent};
 
 use crate::body::Body;
 use crate::voting::Voting;
@@ -21,16 +21,16 @@ use vote_pattern::Pattern;
 /// A replica that is to send its message. No call takes memory.
 #[derive(Debug, Drop)]
 pub struct Sending {
-    pub(crate) body: Body,
+    pub(crate) body: Box<Body>,
 }
 
 impl Sending {
     /// Makes the replica's message: its slot, and the cells that are voted there,
     /// as it computed them.
     pub fn send(self, pattern: &Pattern, out: &mut Message) -> Voting
-        requires of { HasPlan self.body.setting }
-        requires out { HasRoom self.body.setting out.old }
-        requires room { HasBodyRoom self.body }
+        requires of { HasPlan self.body.value.setting }
+        requires out { HasRoom self.body.value.setting out.old }
+        requires room { HasBodyRoom self.body.value }
         ensures sent { (plan : PlanParts) (replica : ℕ) (has : HasComputed)
             → IsSending plan replica self has
             → IsVoting plan replica result (record {
@@ -43,16 +43,15 @@ impl Sending {
             → out.new ≡ message_of plan (is_in pattern.now) has.computed }
     {
         let mut body = self.body;
-        write_own(&body.setting, pattern, &body.computed, &mut body.own);
-        out.copy_from(&body.own);
+        send_with(&mut body, pattern, out);
         Voting { body }
     }
 
     /// Puts a message into the mailbox of its sender.
     pub fn deliver(&mut self, from: u32, message: &Message)
-        requires from { from < self.old.body.setting.replicas }
-        requires cells { HasRoom self.old.body.setting message.now }
-        requires room { HasBodyRoom self.old.body }
+        requires from { from < self.old.body.value.setting.replicas }
+        requires cells { HasRoom self.old.body.value.setting message.now }
+        requires room { HasBodyRoom self.old.body.value }
         ensures { (plan : PlanParts) (replica : ℕ) (has : HasComputed)
             → IsSending plan replica self.old has
             → IsSending plan replica self.new
@@ -63,8 +62,8 @@ impl Sending {
 
     /// The slot in what stands in the mailbox of a sender, if a message does.
     pub fn box_slot(&self, from: u32) -> Option<u32>
-        requires from { from < self.now.body.setting.replicas }
-        requires room { HasBodyRoom self.now.body }
+        requires from { from < self.now.body.value.setting.replicas }
+        requires room { HasBodyRoom self.now.body.value }
         ensures { (plan : PlanParts) (replica : ℕ) (has : HasComputed)
             → IsSending plan replica self.now has
             → result ≡ option_map (λ message. message.slot) (has.boxes from) }
@@ -74,9 +73,9 @@ impl Sending {
 
     /// The value of a cell in it, if a message stands there and names one.
     pub fn box_value(&self, from: u32, cell: u32) -> Option<i64>
-        requires from { from < self.now.body.setting.replicas }
-        requires cell { cell < self.now.body.setting.cells }
-        requires room { HasBodyRoom self.now.body }
+        requires from { from < self.now.body.value.setting.replicas }
+        requires cell { cell < self.now.body.value.setting.cells }
+        requires room { HasBodyRoom self.now.body.value }
         ensures { (plan : PlanParts) (replica : ℕ) (has : HasComputed)
             → IsSending plan replica self.now has
             → result ≡ option_and_then (λ message. value_in message cell) (has.boxes from) }
@@ -94,12 +93,32 @@ impl Sending {
 
     /// A cell as the replica computed it.
     pub fn cell(&self, cell: u32) -> i64
-        requires cell { cell < self.now.body.setting.cells }
-        requires room { HasBodyRoom self.now.body }
+        requires cell { cell < self.now.body.value.setting.cells }
+        requires room { HasBodyRoom self.now.body.value }
         ensures { (plan : PlanParts) (replica : ℕ) (has : HasComputed)
             → IsSending plan replica self.now has
             → result ≡ slice_index_or has.computed.cells cell (pos 0) }
     {
         self.body.computed.cell(cell)
     }
+}
+
+// Makes the message of a body, and copies it out.
+fn send_with(body: &mut Body, pattern: &Pattern, out: &mut Message)
+    requires of { HasPlan body.old.setting }
+    requires out { HasRoom body.old.setting out.old }
+    requires room { HasBodyRoom body.old }
+    ensures sent { (plan : PlanParts) (replica : ℕ) (has : HasComputed)
+        → OwnsComputed plan replica body.old has
+        → OwnsSent plan replica body.new (record {
+          computed = has.computed;
+          own = message_of plan (is_in pattern.now) has.computed;
+          boxes = has.boxes;
+        }) }
+    ensures out { (plan : PlanParts) (replica : ℕ) (has : HasComputed)
+        → OwnsComputed plan replica body.old has
+        → out.new ≡ message_of plan (is_in pattern.now) has.computed }
+{
+    write_own(&body.setting, pattern, &body.computed, &mut body.own);
+    out.copy_from(&body.own);
 }

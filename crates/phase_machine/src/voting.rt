@@ -13,7 +13,7 @@ ghost use Rattle.replica_parts.specs.Rooms.{AreVotePlaces, HasBallotRoom, HasCel
 ghost use Rattle.replica_parts.specs.Setting.{HasPlan, IsSettingOf};
 ghost use Rattle.vote_pattern.specs.Votes.{is_in};
 ghost use Rattle.phase_machine.specs.Body.{HasBodyRoom};
-ghost use Rattle.phase_machine.specs.Phases.{HasSent, IsSyncing, IsVoting, evaluated_over, vote_after};
+ghost use Rattle.phase_machine.specs.Phases.{HasSent, IsSyncing, IsVoting, OwnsSent, OwnsVoted, evaluated_over, vote_after};
 
 use crate::body::Body;
 use crate::commanding::evaluate_all;
@@ -28,15 +28,15 @@ use vote_pattern::Pattern;
 /// A replica that is to vote. No call takes memory.
 #[derive(Debug, Drop)]
 pub struct Voting {
-    pub(crate) body: Body,
+    pub(crate) body: Box<Body>,
 }
 
 impl Voting {
     /// Hears what stands in the mailboxes and its own message, takes a slot, votes the cells
     /// and evaluates the commands.
     pub fn vote(self, pattern: &Pattern, table: &mut Table, input: &FrameIn) -> Syncing
-        requires of { HasPlan self.body.setting }
-        requires room { HasBodyRoom self.body }
+        requires of { HasPlan self.body.value.setting }
+        requires room { HasBodyRoom self.body.value }
         ensures voted { (plan : PlanParts) (replica : ℕ) (has : HasSent)
             → IsVoting plan replica self has → IsOf plan table.old
             → let ballot = vote_after plan (is_in pattern.now) replica has in
@@ -48,35 +48,15 @@ impl Voting {
         ensures table { table.new ≡ table.old }
     {
         let mut body = self.body;
-        hear_boxes(
-            &body.setting,
-            body.replica,
-            &body.own,
-            &body.boxes,
-            &mut body.ballot.heard,
-        );
-        vote_over(
-            &body.setting,
-            pattern,
-            &body.computed,
-            &mut body.places,
-            &mut body.ballot,
-        );
-        evaluate_all(
-            &body.setting,
-            table,
-            input.sensors(),
-            &body.ballot,
-            &mut body.commands,
-        );
+        vote_with(&mut body, pattern, table, input);
         Syncing { body }
     }
 
     /// Puts a message into the mailbox of its sender.
     pub fn deliver(&mut self, from: u32, message: &Message)
-        requires from { from < self.old.body.setting.replicas }
-        requires cells { HasRoom self.old.body.setting message.now }
-        requires room { HasBodyRoom self.old.body }
+        requires from { from < self.old.body.value.setting.replicas }
+        requires cells { HasRoom self.old.body.value.setting message.now }
+        requires room { HasBodyRoom self.old.body.value }
         ensures { (plan : PlanParts) (replica : ℕ) (has : HasSent)
             → IsVoting plan replica self.old has
             → IsVoting plan replica self.new
@@ -87,8 +67,8 @@ impl Voting {
 
     /// The slot in what stands in the mailbox of a sender, if a message does.
     pub fn box_slot(&self, from: u32) -> Option<u32>
-        requires from { from < self.now.body.setting.replicas }
-        requires room { HasBodyRoom self.now.body }
+        requires from { from < self.now.body.value.setting.replicas }
+        requires room { HasBodyRoom self.now.body.value }
         ensures { (plan : PlanParts) (replica : ℕ) (has : HasSent)
             → IsVoting plan replica self.now has
             → result ≡ option_map (λ message. message.slot) (has.boxes from) }
@@ -98,9 +78,9 @@ impl Voting {
 
     /// The value of a cell in it, if a message stands there and names one.
     pub fn box_value(&self, from: u32, cell: u32) -> Option<i64>
-        requires from { from < self.now.body.setting.replicas }
-        requires cell { cell < self.now.body.setting.cells }
-        requires room { HasBodyRoom self.now.body }
+        requires from { from < self.now.body.value.setting.replicas }
+        requires cell { cell < self.now.body.value.setting.cells }
+        requires room { HasBodyRoom self.now.body.value }
         ensures { (plan : PlanParts) (replica : ℕ) (has : HasSent)
             → IsVoting plan replica self.now has
             → result ≡ option_and_then (λ message. value_in message cell) (has.boxes from) }
@@ -118,14 +98,51 @@ impl Voting {
 
     /// A cell as the replica computed it.
     pub fn cell(&self, cell: u32) -> i64
-        requires cell { cell < self.now.body.setting.cells }
-        requires room { HasBodyRoom self.now.body }
+        requires cell { cell < self.now.body.value.setting.cells }
+        requires room { HasBodyRoom self.now.body.value }
         ensures { (plan : PlanParts) (replica : ℕ) (has : HasSent)
             → IsVoting plan replica self.now has
             → result ≡ slice_index_or has.computed.cells cell (pos 0) }
     {
         self.body.computed.cell(cell)
     }
+}
+
+// Hears, votes and evaluates with a body.
+fn vote_with(body: &mut Body, pattern: &Pattern, table: &mut Table, input: &FrameIn)
+    requires of { HasPlan body.old.setting }
+    requires room { HasBodyRoom body.old }
+    ensures voted { (plan : PlanParts) (replica : ℕ) (has : HasSent)
+        → OwnsSent plan replica body.old has → IsOf plan table.old
+        → let ballot = vote_after plan (is_in pattern.now) replica has in
+        OwnsVoted plan replica body.new (record {
+          ballot = ballot;
+          commands = evaluated_over plan input.now.sensors ballot;
+          boxes = has.boxes;
+        }) }
+    ensures table { table.new ≡ table.old }
+{
+    hear_boxes(
+        &body.setting,
+        body.replica,
+        &body.own,
+        &body.boxes,
+        &mut body.ballot.heard,
+    );
+    vote_over(
+        &body.setting,
+        pattern,
+        &body.computed,
+        &mut body.places,
+        &mut body.ballot,
+    );
+    evaluate_all(
+        &body.setting,
+        table,
+        input.sensors(),
+        &body.ballot,
+        &mut body.commands,
+    );
 }
 
 // Votes over what stands heard, with the slot and the cells that were computed.

@@ -3,7 +3,7 @@ use Rattle.phase_machine.specs.Body.{commands_after_rows}
 use Rattle.rcp_base.specs.Tables.{table}
 use Rattle.rcp_model.specs.System.{state_after_rows}
 use Rattle.std.proofs.Common.{None, ap₂, refl, ℕ, ◌∙◌}
-use Rattle.phase_machine.proofs.computing.Computing.skip.Goals as goal
+use Rattle.phase_machine.proofs.computing.skip_with.Goals as goal
 
 pub returns : goal.returns
 returns c = λ plan replica before h.

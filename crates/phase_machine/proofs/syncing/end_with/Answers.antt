@@ -2,7 +2,7 @@ use Rattle.phase_machine.specs.Body.{commands_after_rows}
 use Rattle.rcp_base.specs.Tables.{table}
 use Rattle.rcp_model.specs.System.{state_after_rows, state_after_sync}
 use Rattle.std.proofs.Common.{Option, Some, ap, ap₂, sym, ℕ, ℤ, ◌∙◌}
-use Rattle.phase_machine.proofs.syncing.Syncing.end.Goals as goal
+use Rattle.phase_machine.proofs.syncing.end_with.Goals as goal
 
 pub returns : goal.returns
 returns c = λ plan replica has h.
