@@ -40,6 +40,30 @@ pub fn write_letter(
         → letter_in place.new ≡ letter_to plan frame input.now own.now sender receiver }
     ensures room { IsPost setting.now place.new }
 {
+    let arrival = quiet_arrival(setting, frame, input);
+    put_letter(setting, frame, input, arrival, own, sender, receiver, place);
+}
+
+// Puts what goes out as the rows have it, whichever were written.
+fn write_by_rows(
+    setting: &Setting,
+    frame: u32,
+    input: &FrameIn,
+    own: &Message,
+    sender: u32,
+    receiver: u32,
+    place: &mut Post,
+)
+    requires of { HasPlanWith setting.now input.now }
+    requires frame { frame ≤ MAX_FRAMES }
+    requires sender { sender < setting.now.replicas }
+    requires receiver { receiver < setting.now.replicas }
+    requires own { HasRoom setting.now own.now }
+    requires room { IsPost setting.now place.old }
+    ensures letter { (plan : PlanParts) → IsSettingOf plan setting.now
+        → letter_in place.new ≡ letter_to plan frame input.now own.now sender receiver }
+    ensures room { IsPost setting.now place.new }
+{
     if goes_out(input, sender, receiver) {
         place.arrival = arrival_of(setting, frame, input, sender, receiver);
         write_message(input, own, sender, receiver, &mut place.message);
@@ -62,7 +86,7 @@ fn quiet_arrival(setting: &Setting, frame: u32, input: &FrameIn) -> Option<i64>
     }
 }
 
-// Puts a letter as `write_letter` does, with the tick at which all arrive where there is one.
+// Puts what goes out, with the tick at which all arrive where there is one.
 fn put_letter(
     setting: &Setting,
     frame: u32,
@@ -86,7 +110,7 @@ fn put_letter(
 {
     match arrival {
         Some(tick) => put_message(tick, own, sender != receiver, place),
-        None => write_letter(setting, frame, input, own, sender, receiver, place),
+        None => write_by_rows(setting, frame, input, own, sender, receiver, place),
     }
 }
 

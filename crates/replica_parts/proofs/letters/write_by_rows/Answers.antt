@@ -3,7 +3,7 @@ use Rattle.replica_parts.proofs.SettingLemmas.{same_replicas}
 use Rattle.std.proofs.Common.{SFits, rules, sym, w64, ◌∙◌}
 use Rattle.std.proofs.lemmas.Bool.{cond-false, cond-true}
 use Rattle.std.proofs.lemmas.Int.{to_z-of_z}
-use Rattle.replica_parts.proofs.letters.write_letter.Goals as goal
+use Rattle.replica_parts.proofs.letters.write_by_rows.Goals as goal
 
 pub returns-then-goes_out-clause-letter : goal.returns-then-goes_out-clause-letter
 unfolding letter_to
