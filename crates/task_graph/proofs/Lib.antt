@@ -3,5 +3,6 @@ mod Trees
 mod Soundness
 mod Ways
 mod MaskLemmas
+mod NeedLemmas
 mod WordLemmas
 mod Growth

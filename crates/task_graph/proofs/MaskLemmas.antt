@@ -1,20 +1,18 @@
 -- The bits of a mask are the cells that are read.
-use Rattle.std.proofs.Common.{◌≡◌, ℕ, ◌<◌, false, Bool, eqb, List, [], ◌∷◌, ◌++◌, map, length, get_or, Option, Some, None, inl, inr, refl, sym, ◌∙◌, ap, ap₂, subst, arith}
+use Rattle.std.proofs.Common.{◌≡◌, ℕ, ◌<◌, false, Bool, eqb, List, [], ◌∷◌, ◌++◌, map, length, get_or, inl, inr, refl, sym, ◌∙◌, ap, ap₂, subst, arith}
 use Rattle.std.proofs.lemmas.Bool.{cases_lt, cases_eq, eq-eqb, ne_eqb}
 use Rattle.std.proofs.lemmas.List.{get_or_past, get_or-map, length-map, map-append}
 use Rattle.std.specs.Prelude.{◌||◌}
 use Rattle.std.specs.Int.Bits.{bit_or}
-use Rattle.rcp_base.proofs.TableLaws.{get_or-table}
 use Rattle.rcp_model.specs.declared.expr.Expr.{Expr, map-Expr}
 use Rattle.rcp_model.specs.declared.expr.Expr.TheOpen.{Expr-F}
 use Rattle.rcp_model.specs.declared.expr.Expr.TheViews.{roll-Expr}
 use Rattle.rcp_model.specs.declared.expr.Expr.TheFolds.{fold-roll-Expr, ind-Expr}
 use Rattle.rcp_model.specs.declared.task.LetRow.{LetRow}
 use Rattle.rcp_model.specs.declared.task.Task.{Task}
-use Rattle.rcp_model.specs.Task.{written}
-use Rattle.rcp_model.specs.Dependence.{reads, reads_step, lets_reading_after, leads, leads_by}
+use Rattle.rcp_model.specs.Dependence.{reads, reads_step, lets_reading, lets_reading_after}
 use Rattle.rcp_base.specs.Bits.{has_bit}
-use Rattle.task_graph.specs.inner.Masks.{mask_of, mask_step, let_masks, let_masks_after, mask_by, task_row}
+use Rattle.task_graph.specs.inner.Masks.{mask_of, mask_step, let_masks, let_masks_after}
 use Rattle.task_graph.proofs.Trees.{map-map}
 use Rattle.rcp_base.proofs.BitLaws.{has_bit_or, has_bit_zero}
 use Rattle.task_graph.proofs.BitLemmas.{has_bit_of}
@@ -76,10 +74,10 @@ mask_rolled y masks from below =
     fold-roll-Expr (List Bool → Bool) (reads_step from) z ∙ ap (reads_step from) (map-map HasMask (reads from) y) in
     ap (λ f. has_bit (f masks) from) mask ∙ mask_level y masks from below ∙ sym (ap (λ f. f (having from masks)) read)
 
-pub mask_reads : (e : Expr) → HasMask e
+mask_reads : (e : Expr) → HasMask e
 mask_reads = ind-Expr HasMask (λ x y is. subst (λ z. HasMask (roll-Expr z)) is (mask_rolled y))
 
-pub lets_read : (rows : List LetRow) (known : List ℕ) (from : ℕ) → from < 64 → having from (let_masks_after known rows) ≡ lets_reading_after from (having from known) rows
+lets_read : (rows : List LetRow) (known : List ℕ) (from : ℕ) → from < 64 → having from (let_masks_after known rows) ≡ lets_reading_after from (having from known) rows
 lets_read [] known from below = refl
 lets_read (row ∷ rows) known from below =
     lets_read rows (known ++ mask_of row.value known ∷ []) from below
@@ -87,14 +85,6 @@ lets_read (row ∷ rows) known from below =
     (map-append (λ mask. has_bit mask from) known (mask_of row.value known ∷ [])
     ∙ ap (λ b. having from known ++ b ∷ []) (mask_reads row.value known from below))
 
--- the bits of a task's mask are the cells that lead to the cell
-pub mask_by_leads : (task : Task) (from to : ℕ) (o : Option Expr) → from < 64 → has_bit (mask_by (let_masks task) to o) from ≡ leads_by task from to o
-mask_by_leads task from to None below = has_bit_of to from below
-mask_by_leads task from to (Some e) below =
-    mask_reads e (let_masks task) from below ∙ ap (reads from e) (lets_read task.lets [] from below)
-
-pub row_leads : (cells : ℕ) (task : Task) (from to : ℕ) → from < 64 → to < cells → has_bit (get_or (task_row cells task) to 0) from ≡ leads task from to
-unfolding leads
-row_leads cells task from to below within =
-    ap (λ mask. has_bit mask from) (get_or-table cells (λ c. mask_by (let_masks task) c (written task c)) to 0 within)
-    ∙ mask_by_leads task from to (written task to) below
+-- the bits of what a task's set row reads are the cells that its value reads
+pub mask_leads : (task : Task) (from : ℕ) (e : Expr) → from < 64 → has_bit (mask_of e (let_masks task)) from ≡ reads from e (lets_reading from task)
+mask_leads task from e below = mask_reads e (let_masks task) from below ∙ ap (reads from e) (lets_read task.lets [] from below)

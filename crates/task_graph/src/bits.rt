@@ -1,6 +1,6 @@
 //! Words as sets of cells.
 //! This project's own.
-ghost use Rattle.std.specs.Prelude.{◌≡◌};
+ghost use Rattle.std.specs.Prelude.{◌≡◌, slice_index_or};
 ghost use Rattle.rcp_base.specs.Bits.{has_bit};
 ghost use Rattle.task_graph.specs.inner.Masks as spec;
 
@@ -20,9 +20,12 @@ pub fn bit_of(cell: usize) -> u64
     if cell < 64 { 1 << cell } else { 0 }
 }
 
-/// The mask, where it counts.
-pub fn mask_if(counts: bool, mask: u64) -> u64
-    ensures { result ≡ spec.mask_if counts mask }
+/// The word at a place, and an empty one where there is no such place.
+pub fn word_at(words: &[u64], place: usize) -> u64
+    ensures { result ≡ slice_index_or words.now place 0 }
 {
-    if counts { mask } else { 0 }
+    match words.get(place) {
+        Some(word) => *word,
+        None => 0,
+    }
 }

@@ -1,10 +1,9 @@
-//! The cells that an expression reads, and those that lead to a cell over a task.
+//! The cells that an expression reads, and those that each set row of a task reads.
 //! This project's own.
-ghost use Rattle.std.specs.Prelude.{◌≡◌, [], IfOk, slice_index_or};
+ghost use Rattle.std.specs.Prelude.{◌≡◌, [], map, IfOk};
 ghost use Rattle.task_graph.specs.inner.Masks as spec;
-ghost use Rattle.rcp_model.specs.Task.{expression_for};
 
-use crate::bits::bit_of;
+use crate::bits::{bit_of, word_at};
 use rcp_base::{List, Memory};
 use rcp_model::{Expr, LetRow, SetRow, Task};
 use std::alloc::Global;
@@ -16,7 +15,7 @@ pub fn mask_of(e: &Expr, lets: &[u64]) -> u64
     match e {
         Expr::Number(_) | Expr::Sensor(_) => 0,
         Expr::Cell(i) => bit_of(*i as usize),
-        Expr::Let(i) => mask_at(lets, *i),
+        Expr::Let(i) => word_at(lets, *i as usize),
         Expr::Neg(x) | Expr::Not(x) | Expr::Abs(x) => mask_of(x.get(), lets),
         Expr::Two(_, a, b) => mask_of(a.get(), lets) | mask_of(b.get(), lets),
         Expr::Clamp(x, low, high) => {
@@ -25,16 +24,6 @@ pub fn mask_of(e: &Expr, lets: &[u64]) -> u64
         Expr::If(test, a, b) => {
             mask_of(test.get(), lets) | mask_of(a.get(), lets) | mask_of(b.get(), lets)
         }
-    }
-}
-
-// The mask of a let, and none where there is no such let.
-fn mask_at(lets: &[u64], i: u16) -> u64
-    ensures { result ≡ slice_index_or lets.now i 0 }
-{
-    match lets.get(i as usize) {
-        Some(mask) => *mask,
-        None => 0,
     }
 }
 
@@ -50,37 +39,42 @@ pub fn let_masks(alloc: Global, rows: &[LetRow]) -> Result<Vec<u64>, Memory>
     Ok(masks)
 }
 
-/// The cells that lead to a cell over set rows.
-pub fn mask_by(rows: &[SetRow], lets: &[u64], to: u32) -> u64
-    ensures { result ≡ spec.mask_by lets.now to (expression_for rows.now to) }
-{
-    for row in rows {
-        if row.cell as u32 == to {
-            return mask_of(&row.value, lets);
-        }
-    }
-    bit_of(to as usize)
+/// What a set row does: the cell that it sets, and the cells that its value reads.
+#[derive(Debug, Drop)]
+pub struct SetMask {
+    pub cell: u16,
+    pub mask: u64,
 }
 
-/// The cells that lead to each cell over a task.
-pub fn task_row(alloc: Global, task: &Task, cells: u32) -> Result<List<u64>, Memory>
-    ensures { IfOk result (λ row. row ≡ spec.task_row cells task.now) }
+// What each set row does, over the masks of the lets.
+fn set_masks(alloc: Global, rows: &[SetRow], lets: &[u64]) -> Result<List<SetMask>, Memory>
+    ensures { IfOk result (λ masks. masks ≡ map (spec.set_mask lets.now) rows.now) }
+{
+    let mut masks = List::new(alloc);
+    for row in rows {
+        masks.push(SetMask {
+            cell: row.cell,
+            mask: mask_of(&row.value, lets),
+        })?;
+    }
+    Ok(masks)
+}
+
+/// What each set row of a task does.
+pub fn task_masks(alloc: Global, task: &Task) -> Result<List<SetMask>, Memory>
+    ensures { IfOk result (λ masks. masks ≡ spec.task_masks task.now) }
 {
     let lets = let_masks(alloc, task.lets.as_slice())?;
-    let mut row = List::new(alloc);
-    for to in 0..cells {
-        row.push(mask_by(task.sets.as_slice(), lets.as_slice(), to))?;
-    }
-    Ok(row)
+    set_masks(alloc, task.sets.as_slice(), lets.as_slice())
 }
 
 /// Those of each task.
-pub fn task_rows(alloc: Global, tasks: &[Task], cells: u32) -> Result<List<List<u64>>, Memory>
-    ensures { IfOk result (λ rows. rows ≡ spec.task_rows cells tasks.now) }
+pub fn masks_of_tasks(alloc: Global, tasks: &[Task]) -> Result<List<List<SetMask>>, Memory>
+    ensures { IfOk result (λ masks. masks ≡ map spec.task_masks tasks.now) }
 {
-    let mut rows = List::new(alloc);
+    let mut masks = List::new(alloc);
     for task in tasks {
-        rows.push(task_row(alloc, task, cells)?)?;
+        masks.push(task_masks(alloc, task)?)?;
     }
-    Ok(rows)
+    Ok(masks)
 }

@@ -5,7 +5,7 @@ ghost use Rattle.rcp_base.specs.declared.TheConstants.{MAX_CELLS, MAX_SLOTS};
 ghost use Rattle.task_graph.specs.Rows.{AreNeeds, needs_in, IsDependenceOf};
 
 use crate::bits::has_cell;
-use crate::masks::task_rows;
+use crate::masks::masks_of_tasks;
 use crate::words::plan_words;
 use rcp_base::{Memory, bits};
 use rcp_model::{Plan, PlanParts};
@@ -99,8 +99,8 @@ fn rows_of(alloc: Global, parts: &PlanParts) -> Result<DepRows, Memory>
     ensures { IfOk result (IsDependenceOf parts.now) }
 {
     let cells = parts.cells.len() as u32;
-    let rows = task_rows(alloc, parts.tasks.as_slice(), cells)?;
-    let words = plan_words(alloc, rows.as_slice(), cells, parts.slots.as_slice())?;
+    let masks = masks_of_tasks(alloc, parts.tasks.as_slice())?;
+    let words = plan_words(alloc, masks.as_slice(), cells, parts.slots.as_slice())?;
     Ok(DepRows {
         slots: parts.slots.len() as u32,
         cells,

@@ -1,15 +1,16 @@
--- Words as sets of cells: what an expression reads, and what leads to a cell over a task and over the tasks of a slot.
+-- Words as sets of cells: what an expression reads, and what feeds each cell over a task and over the tasks of a slot.
 -- This project's own.
-use Rattle.std.specs.Prelude.{ℕ, ◌^◌, zero, suc, Bool, nat_lt, length, List, [], ◌∷◌, ◌++◌, map, slice_index_or, Option, Some, None, if◌then◌else◌}
+use Rattle.std.specs.Prelude.{ℕ, ◌^◌, zero, suc, Bool, nat_lt, length, List, [], ◌∷◌, ◌++◌, map, slice_index_or, slice_set, if◌then◌else◌}
 use Rattle.std.specs.Int.Bits.{bit_or}
 use Rattle.rcp_base.specs.Bits.{has_bit}
 use Rattle.rcp_base.specs.Tables.{table}
 use Rattle.rcp_model.specs.declared.expr.Expr.{Expr, fold-Expr}
 use Rattle.rcp_model.specs.declared.expr.Expr.TheOpen.{Expr-F}
 use Rattle.rcp_model.specs.declared.task.LetRow.{LetRow}
+use Rattle.rcp_model.specs.declared.task.SetRow.{SetRow}
 use Rattle.rcp_model.specs.declared.task.Task.{Task}
 use Rattle.rcp_model.specs.declared.plan.SlotRow.{SlotRow}
-use Rattle.rcp_model.specs.Task.{written}
+use Rattle.task_graph.specs.declared.masks.SetMask.{SetMask}
 
 -- the word of one cell, and of none where a word has no room for it
 abbrev pub bit_of : ℕ → ℕ
@@ -41,44 +42,46 @@ let_masks_after known (row ∷ rows) = let_masks_after (known ++ mask_of row.val
 abbrev pub let_masks : Task → List ℕ
 let_masks task = let_masks_after [] task.lets
 
--- the cells that lead to a cell over a task that gives it this expression, or none
-abbrev pub mask_by : List ℕ → ℕ → Option Expr → ℕ
-mask_by lets to None = bit_of to
-mask_by lets to (Some e) = mask_of e lets
+-- what a set row does, over the masks of the lets
+abbrev pub set_mask : List ℕ → SetRow → SetMask
+set_mask lets row = record { cell = row.cell; mask = mask_of row.value lets }
 
--- the cells that lead to each cell over a task
-abbrev pub task_row : ℕ → Task → List ℕ
-task_row cells task = table cells (λ to. mask_by (let_masks task) to (written task to))
-
--- those of each task
-abbrev pub task_rows : ℕ → List Task → List (List ℕ)
-task_rows cells tasks = map (task_row cells) tasks
+-- what each set row of a task does
+abbrev pub task_masks : Task → List SetMask
+task_masks task = map (set_mask (let_masks task)) task.sets
 
 -- the mask, where it counts
 abbrev pub mask_if : Bool → ℕ → ℕ
 mask_if counts mask = if counts then mask else 0
 
--- the cells that stand in one of the first n words of a row, of which the word says which count
+-- the union of those of the first n words that the mask has
 abbrev pub union_below : List ℕ → ℕ → ℕ → ℕ
-union_below row word zero = 0
-union_below row word (suc n) = bit_or (union_below row word n) (mask_if (has_bit word n) (slice_index_or row n 0))
+union_below needs mask zero = 0
+union_below needs mask (suc n) = bit_or (union_below needs mask n) (mask_if (has_bit mask n) (slice_index_or needs n 0))
 
--- the cells that lead to one of the word over the task with that number. One that isn't there changes nothing
-abbrev pub word_before : List (List ℕ) → ℕ → ℕ → ℕ
-word_before rows number word =
-    let row = slice_index_or rows number [] in
-    if nat_lt number (length rows) then union_below row word (length row) else word
+-- the cells that feed one of the mask's cells, by what feeds each cell
+abbrev pub union_of : List ℕ → ℕ → ℕ
+union_of needs mask = union_below needs mask (length needs)
 
--- the cells that feed a cell over the tasks with these numbers
-abbrev pub word_over : List (List ℕ) → ℕ → List ℕ → ℕ
-word_over rows to [] = bit_of to
-word_over rows to (number ∷ numbers) = word_before rows number (word_over rows to numbers)
+-- what feeds each cell after set rows, all by what fed it before. The first row that sets a cell stands
+abbrev pub needs_after_sets : List ℕ → List SetMask → List ℕ
+needs_after_sets needs [] = needs
+needs_after_sets needs (row ∷ rows) = slice_set (needs_after_sets needs rows) row.cell (union_of needs row.mask)
 
--- those of each cell
-abbrev pub slot_words : List (List ℕ) → ℕ → List ℕ → List ℕ
-slot_words rows cells numbers = table cells (λ to. word_over rows to numbers)
+-- what feeds each cell after the task with that number. One that isn't there changes nothing
+abbrev pub needs_after_task : List (List SetMask) → ℕ → List ℕ → List ℕ
+needs_after_task masks number needs = needs_after_sets needs (slice_index_or masks number [])
 
--- and those of each slot
-abbrev pub plan_words : List (List ℕ) → ℕ → List SlotRow → List ℕ
-plan_words rows cells [] = []
-plan_words rows cells (slot ∷ slots) = slot_words rows cells slot.tasks ++ plan_words rows cells slots
+-- what feeds each cell after the tasks with these numbers, one after the other
+abbrev pub needs_after : List (List SetMask) → List ℕ → List ℕ → List ℕ
+needs_after masks [] needs = needs
+needs_after masks (number ∷ numbers) needs = needs_after masks numbers (needs_after_task masks number needs)
+
+-- what feeds each cell over a slot's tasks: in front of them each cell by itself
+abbrev pub slot_words : List (List SetMask) → ℕ → List ℕ → List ℕ
+slot_words masks cells numbers = needs_after masks numbers (table cells bit_of)
+
+-- and over those of each slot
+abbrev pub plan_words : List (List SetMask) → ℕ → List SlotRow → List ℕ
+plan_words masks cells [] = []
+plan_words masks cells (slot ∷ slots) = slot_words masks cells slot.tasks ++ plan_words masks cells slots

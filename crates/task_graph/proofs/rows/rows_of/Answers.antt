@@ -1,6 +1,6 @@
 -- The words are as many as the slots and cells, and those of the slots.
-use Rattle.std.proofs.Common.{◌≡◌, ◌*◌, sym, ℕ, length, ap, ap₂, ◌∙◌, arith}
-use Rattle.task_graph.specs.inner.Masks.{task_rows, plan_words}
+use Rattle.std.proofs.Common.{◌≡◌, ◌*◌, sym, ℕ, map, length, ap, ap₂, ◌∙◌, arith}
+use Rattle.task_graph.specs.inner.Masks.{task_masks, plan_words}
 use Rattle.task_graph.proofs.WordLemmas.{length-plan_words, plan_rows, same_rows}
 use Rattle.task_graph.proofs.rows.rows_of.Goals as goal
 
@@ -16,10 +16,10 @@ invariant_of-result c = (
 pub returns : goal.returns
 returns c =
     let cells : ℕ = c.len-cells.result in
-    let words : c.in_ok-words.words.items ≡ plan_words (task_rows cells c.args.parts.now.tasks) cells c.args.parts.now.slots =
+    let words : c.in_ok-words.words.items ≡ plan_words (map task_masks c.args.parts.now.tasks) cells c.args.parts.now.slots =
     c.in_ok-words.ensures
-    ∙ ap₂ (λ rows slots. plan_words rows cells slots)
-    (c.as_slice-2.ensures ∙ c.in_ok-rows.ensures ∙ ap (task_rows cells) c.as_slice.ensures)
+    ∙ ap₂ (λ masks slots. plan_words masks cells slots)
+    (c.as_slice-2.ensures ∙ c.in_ok-masks.ensures ∙ ap (map task_masks) c.as_slice.ensures)
     c.as_slice-3.ensures in
     plan_rows c.args.parts.now _ c.requires.cells
     (same_rows c.args.parts.now c.len.result cells c.in_ok-words.words.items c.len.ensures c.len-cells.ensures words)

@@ -4,4 +4,4 @@ use Rattle.task_graph.specs.inner.Masks as spec
 use Rattle.task_graph.proofs.words.plan_words.Given as goal
 
 abbrev pub invariant-loop-slot : goal.invariant-loop-slot
-invariant-loop-slot l = l.words.items ++ spec.plan_words l.rows l.cells (drop l.slot-index l.slots) ≡ spec.plan_words l.rows l.cells l.slots
+invariant-loop-slot l = l.words.items ++ spec.plan_words l.masks l.cells (drop l.slot-index l.slots) ≡ spec.plan_words l.masks l.cells l.slots
