@@ -1,11 +1,12 @@
 -- Events in order: one more of them, and one taken out.
-use Rattle.std.specs.List.{AllByRecursion, Contains, insert, remove}
+use Rattle.std.specs.List.{All, AllByRecursion, Contains, insert, remove}
 use Rattle.std.specs.List.Sorted.{IsPartitionPoint, IsPartitionedBy}
 use Rattle.std.specs.Ordering.{is_lt}
 use Rattle.std.proofs.lemmas.Bool.{both_ways}
 use Rattle.std.proofs.lemmas.List.Sorted.{All-permutation, IsPermutation-refl, IsPermutation-sym, IsPermutation-trans, IsPermutation-cons, IsPermutation-append_left, IsPermutation-middle, IsPermutation-insert}
 use Rattle.std.proofs.lemmas.List.Elements.{recursion_from_All, All-from_recursion, All-get_or}
-use Rattle.std.proofs.Common.{◌≡◌, ℕ, zero, suc, ◌<◌, ◌≤◌, Bool, true, false, cond, List, [], ◌∷◌, ◌++◌, IsPermutation, length, get_or, slice_index_or, refl, sym, ap, ◌∙◌, subst, arith, append-nil}
+use Rattle.std.proofs.lemmas.List.{get_or_default}
+use Rattle.std.proofs.Common.{◌≡◌, ℕ, zero, suc, ◌-◌, ◌<◌, ◌≤◌, Bool, true, false, cond, List, [], ◌∷◌, ◌++◌, IsPermutation, length, get_or, slice_index_or, refl, sym, ap, ◌∙◌, subst, arith, append-nil}
 use Rattle.event_queue.specs.declared.event.Event.{Event}
 use Rattle.event_queue.specs.Event.{event_cmp, same_event}
 use Rattle.event_queue.specs.Agenda.{inserted, in_turn_from, in_turn, InTurn, without_event}
@@ -117,6 +118,117 @@ inserted_place e (f ∷ fs) (suc i) le h =
       λ k d a b. h.0 (suc k) d (omega arith) (omega arith),
       λ k d a b. h.1 (suc k) d (omega arith) (omega arith),
     ))
+
+-- Behind the last.
+
+-- an event that none comes before stands first
+stands_first : (e : Event) (es : List Event) → AllByRecursion (IsBehind e) es
+    → inserted e es ≡ e ∷ es
+stands_first e [] all = refl
+stands_first e (f ∷ fs) all = ap (λ t. cond t (f ∷ inserted e fs) (e ∷ f ∷ fs)) all.0
+
+inserted_behind : (e : Event) (es : List Event) → InTurn es
+    → AllByRecursion (λ f. IsBehind f e) es → inserted e es ≡ es ++ e ∷ []
+inserted_behind e [] turn all = refl
+inserted_behind e (f ∷ fs) turn all =
+    go (is_lt (event_cmp f e)) refl (inserted_behind e fs turn.1 all.1)
+  where
+    go : (t : Bool) → is_lt (event_cmp f e) ≡ t → inserted e fs ≡ fs ++ e ∷ []
+        → cond t (f ∷ inserted e fs) (e ∷ f ∷ fs) ≡ f ∷ (fs ++ e ∷ [])
+    go true is rest = ap (λ x. f ∷ x) rest
+    go false is rest =
+        let same : f ≡ e = one_of_two f e is all.0 in
+        let first : inserted e fs ≡ e ∷ fs =
+        stands_first e fs (subst (λ x. AllByRecursion (IsBehind x) fs) same turn.0) in
+        ap (λ x. x ∷ f ∷ fs) (sym same) ∙ ap (λ x. f ∷ x ∷ fs) same
+        ∙ ap (λ x. f ∷ x) (sym first ∙ rest)
+
+-- an event that does not come before the last stands behind it
+pub inserted_end : (e : Event) (es : List Event) (d : Event) → InTurn es
+    → is_lt (event_cmp e (get_or es (length es - 1) d)) ≡ false → inserted e es ≡ es ++ e ∷ []
+inserted_end e es d turn last =
+    inserted_behind e es turn (recursion_from_All (λ f. IsBehind f e) es behind)
+  where
+    behind : All (λ f. IsBehind f e) es
+    behind i k below =
+        before_order.chain e (get_or es (length es - 1) k) (get_or es i k)
+        (ap (λ f. is_lt (event_cmp e f)) (get_or_default es (length es - 1) k d (omega arith))
+        ∙ last)
+        (in_turn_at es i (length es - 1) k turn (omega arith) (omega arith))
+
+-- Either of two first.
+
+passes : (e f : Event) (es : List Event) → is_lt (event_cmp f e) ≡ true
+    → inserted e (f ∷ es) ≡ f ∷ inserted e es
+passes e f es h = ap (λ t. cond t (f ∷ inserted e es) (e ∷ f ∷ es)) h
+
+stops : (e f : Event) (es : List Event) → is_lt (event_cmp f e) ≡ false
+    → inserted e (f ∷ es) ≡ e ∷ f ∷ es
+stops e f es h = ap (λ t. cond t (f ∷ inserted e es) (e ∷ f ∷ es)) h
+
+-- two events stand in the same order, whichever is put in first
+two_in_order : (e f : Event) (es : List Event)
+    → cond (is_lt (event_cmp f e)) (f ∷ e ∷ es) (e ∷ f ∷ es)
+    ≡ cond (is_lt (event_cmp e f)) (e ∷ f ∷ es) (f ∷ e ∷ es)
+two_in_order e f es = go (is_lt (event_cmp f e)) refl (is_lt (event_cmp e f)) refl
+  where
+    go : (t : Bool) → is_lt (event_cmp f e) ≡ t → (u : Bool) → is_lt (event_cmp e f) ≡ u
+        → cond t (f ∷ e ∷ es) (e ∷ f ∷ es) ≡ cond u (e ∷ f ∷ es) (f ∷ e ∷ es)
+    go true h true k = absurd (both_ways _ (before_order.one_way f e h) k)
+    go true h false k = refl
+    go false h true k = refl
+    go false h false k =
+        let same : e ≡ f = one_of_two e f k h in
+        ap (λ x. x ∷ f ∷ es) same ∙ ap (λ x. f ∷ x ∷ es) (sym same)
+
+between : (g f e : Event) → is_lt (event_cmp g f) ≡ false → is_lt (event_cmp g e) ≡ true
+    → is_lt (event_cmp f e) ≡ true
+between g f e h k = go (is_lt (event_cmp f e)) refl
+  where
+    go : (t : Bool) → is_lt (event_cmp f e) ≡ t → t ≡ true
+    go true is = refl
+    go false is = absurd (both_ways _ (before_order.chain g f e h is) k)
+
+inserted_twice : (e f : Event) (es : List Event)
+    → inserted e (inserted f es) ≡ inserted f (inserted e es)
+inserted_twice e f [] = two_in_order e f []
+inserted_twice e f (g ∷ gs) =
+    go (is_lt (event_cmp g e)) refl (is_lt (event_cmp g f)) refl (inserted_twice e f gs)
+  where
+    go : (t : Bool) → is_lt (event_cmp g e) ≡ t → (u : Bool) → is_lt (event_cmp g f) ≡ u
+        → inserted e (inserted f gs) ≡ inserted f (inserted e gs)
+        → inserted e (inserted f (g ∷ gs)) ≡ inserted f (inserted e (g ∷ gs))
+    go true h true k rest =
+        ap (inserted e) (passes f g gs k) ∙ passes e g (inserted f gs) h ∙ ap (λ x. g ∷ x) rest
+        ∙ sym (ap (inserted f) (passes e g gs h) ∙ passes f g (inserted e gs) k)
+    go true h false k rest =
+        ap (inserted e) (stops f g gs k) ∙ passes e f (g ∷ gs) (between g f e k h)
+        ∙ ap (λ x. f ∷ x) (passes e g gs h)
+        ∙ sym (ap (inserted f) (passes e g gs h) ∙ stops f g (inserted e gs) k)
+    go false h true k rest =
+        ap (inserted e) (passes f g gs k) ∙ stops e g (inserted f gs) h
+        ∙ sym (ap (inserted f) (stops e g gs h) ∙ passes f e (g ∷ gs) (between g e f h k)
+        ∙ ap (λ x. e ∷ x) (passes f g gs k))
+    go false h false k rest =
+        ap (inserted e) (stops f g gs k)
+        ∙ ap (λ x. cond (is_lt (event_cmp f e)) (f ∷ x) (e ∷ f ∷ g ∷ gs)) (stops e g gs h)
+        ∙ two_in_order e f (g ∷ gs)
+        ∙ sym (ap (inserted f) (stops e g gs h)
+        ∙ ap (λ x. cond (is_lt (event_cmp e f)) (e ∷ x) (f ∷ e ∷ g ∷ gs)) (stops f g gs k))
+
+inserted_before : (e : Event) (done es : List Event)
+    → in_turn_from (inserted e done) es ≡ inserted e (in_turn_from done es)
+inserted_before e done [] = refl
+inserted_before e done (f ∷ fs) =
+    ap (λ x. in_turn_from x fs) (inserted_twice f e done) ∙ inserted_before e (inserted f done) fs
+
+-- of two lots of events, either may be put in first
+pub either_first : (done es fs : List Event)
+    → in_turn_from (in_turn_from done es) fs ≡ in_turn_from (in_turn_from done fs) es
+either_first done es [] = refl
+either_first done es (f ∷ fs) =
+    ap (λ x. in_turn_from x fs) (sym (inserted_before f done es))
+    ∙ either_first (inserted f done) es fs
 
 -- One taken out.
 

@@ -1,10 +1,11 @@
 //! An agenda of timed events.
 //! After NASA TM-104196; the order of events at one tick is this project's own.
-ghost use Rattle.std.specs.Prelude.{◌≡◌, ◌<◌, IfOk, slice_get, Some};
+ghost use Rattle.std.specs.Prelude.{◌≡◌, ◌<◌, ◌≤◌, ◌∷◌, ◌++◌, [], length, true, IfOk, slice_get, Some};
 ghost use Rattle.std.specs.List.{prefix_len};
+ghost use Rattle.std.specs.VecDeque.{deque_capacity};
 ghost use Rattle.std.specs.Ordering.{is_lt};
 ghost use Rattle.event_queue.specs.Event.{event_cmp};
-ghost use Rattle.event_queue.specs.Agenda.{InTurn, same_moment, due, empty_queue, with_event, without_place};
+ghost use Rattle.event_queue.specs.Agenda.{InTurn, inserted, same_moment, due, empty_queue, with_event, without_place};
 
 use crate::Event;
 use rcp_base::Memory;
@@ -46,10 +47,7 @@ impl Agenda {
         requires { 0 < self.old.spare }
         ensures { self.new ≡ with_event self.old event }
     {
-        let place = self
-            .events
-            .partition_point(|other| stands_before(other, &event));
-        let _ = self.events.insert(place, event);
+        put_in(&mut self.events, event);
     }
 
     /// How many events have the least tick and, at it, the least kind. It is 0 exactly where there is none.
@@ -88,6 +86,42 @@ impl Agenda {
     {
         self.capacity - self.events.len() as u32
     }
+}
+
+// Puts an event at its place among events in order. One that none comes after goes to the end at once.
+fn put_in(events: &mut VecDeque<Event>, event: Event)
+    requires turn { InTurn events.old.items }
+    requires room { length events.old.items < deque_capacity events.old }
+    ensures events { events.new.items ≡ inserted event events.old.items }
+    ensures capacity { deque_capacity events.old ≤ deque_capacity events.new }
+{
+    if is_last(events, &event) {
+        let _ = events.push_back(event);
+    } else {
+        put_amid(events, event);
+    }
+}
+
+// Whether no event of some in order comes after one.
+fn is_last(events: &VecDeque<Event>, event: &Event) -> bool
+    requires turn { InTurn events.now.items }
+    ensures { result ≡ true → inserted event.now events.now.items ≡ events.now.items ++ event.now ∷ [] }
+{
+    match events.back() {
+        None => true,
+        Some(last) => !stands_before(event, last),
+    }
+}
+
+// Puts an event at its place among events in order.
+fn put_amid(events: &mut VecDeque<Event>, event: Event)
+    requires turn { InTurn events.old.items }
+    requires room { length events.old.items < deque_capacity events.old }
+    ensures events { events.new.items ≡ inserted event events.old.items }
+    ensures capacity { deque_capacity events.old ≤ deque_capacity events.new }
+{
+    let place = events.partition_point(|other| stands_before(other, &event));
+    let _ = events.insert(place, event);
 }
 
 // Whether an event comes before another.

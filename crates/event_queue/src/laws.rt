@@ -1,10 +1,15 @@
 //! What follows from the order of events, for all events and answers.
 //! This project's own.
-ghost use Rattle.event_queue.specs.Laws.{OrderMovesEvents, DueEventsAreTheLeast, EventsLeaveTheirPlace, AnyAnswersMakeALog};
+ghost use Rattle.event_queue.specs.Laws.{EitherLotMayBeFirst, OrderMovesEvents, DueEventsAreTheLeast, EventsLeaveTheirPlace, AnyAnswersMakeALog};
 
 /// Events that are brought into order are the same events, and none comes before one that is ahead of it.
 pub fn order_moves_events()
     ensures { OrderMovesEvents }
+{}
+
+/// Of two lots of events that are put in among others, either may be the first.
+pub fn either_lot_may_be_first()
+    ensures { EitherLotMayBeFirst }
 {}
 
 /// Of events in order exactly those are due whose tick and kind no other comes before.

@@ -1,43 +1,42 @@
-use Rattle.std.proofs.lemmas.List.Sorted.{IsPartitionPoint-from_clause}
-use Rattle.std.proofs.Common.{◌≡◌, ◌<◌, List, length, rules, sym, ap, ◌∙◌, subst, arith}
-use Rattle.event_queue.specs.declared.event.Event.{Event}
-use Rattle.event_queue.specs.Agenda.{EventQueue, InTurn, inserted, with_event}
-use Rattle.event_queue.proofs.AgendaLemmas.{sure, placed, added, length-inserted}
-use Rattle.event_queue.proofs.TurnLaws.{comes_ahead, inserted_turn}
+use Rattle.std.proofs.Common.{◌<◌, length, sym, ap, ◌∙◌, subst, arith}
+use Rattle.event_queue.specs.Agenda.{EventQueue, InTurn, with_event}
+use Rattle.event_queue.proofs.AgendaLemmas.{added, length-inserted}
+use Rattle.event_queue.proofs.TurnLaws.{inserted_turn}
 use Rattle.event_queue.proofs.agenda.Agenda.add.Goals as goal
 
-has_room : (c : goal.After-insert) → length c.self.inside.events.items < c.self.inside.capacity
+has_room : (c : goal.After-put_in) → length c.self.inside.events.items < c.self.inside.capacity
 has_room c = omega (arith, c.requires, ap (λ (q : EventQueue). q.spare) c.self.view_is)
 
-stands : (c : goal.After-insert)
-    → c.insert.new.self.items ≡ inserted c.args.event c.self.inside.events.items
-stands c =
-    let old : List Event = c.self.inside.events.items in
-    placed c.args.event old c.insert.new.self.items c.partition_point-place.result
-    c.self.invariant.turn
-    (omega (arith, c.partition_point-place.ensures.bound, c.self.inside.events.ok.0))
-    (λ parts.
-    IsPartitionPoint-from_clause (comes_ahead c.args.event) old c.partition_point-place.result
-    c.partition_point-place.ensures.partitioned parts (λ a r q k. search rules))
-    (sure c.insert.result _ _ c.insert.ensures.items c.insert.ensures.full
-    (λ full. omega (arith, full, has_room c, c.self.invariant.room, c.self.inside.events.ok.0)))
+pub put_in-requires-clause-turn : goal.put_in-requires-clause-turn
+put_in-requires-clause-turn c = c.self.invariant.turn
+
+pub put_in-requires-clause-room : goal.put_in-requires-clause-room
+put_in-requires-clause-room c =
+    omega (
+      arith,
+      c.requires,
+      ap (λ (q : EventQueue). q.spare) c.self.view_is,
+      c.self.invariant.room,
+    )
 
 pub invariant_of-self : goal.invariant_of-self
 invariant_of-self c = record {
   small = c.self.invariant.small;
-  turn = subst InTurn (sym (stands c)) (inserted_turn c.args.event _ c.self.invariant.turn);
+  turn =
+      subst InTurn (sym c.put_in.ensures.events)
+      (inserted_turn c.args.event _ c.self.invariant.turn);
   fits =
       omega (
         arith,
         has_room c,
-        ap length (stands c),
+        ap length c.put_in.ensures.events,
         length-inserted c.args.event c.self.inside.events.items,
       );
-  room = omega (arith, c.insert.ensures.capacity, c.self.invariant.room);
+  room = omega (arith, c.put_in.ensures.capacity, c.self.invariant.room);
 }
 
 pub returns : goal.returns
 returns c =
-    added c.self.inside.capacity c.self.inside.events.items c.insert.new.self.items c.args.event
-    (stands c)
+    added c.self.inside.capacity c.self.inside.events.items c.put_in.new.events.items c.args.event
+    c.put_in.ensures.events
     ∙ ap (λ q. with_event q c.args.event) c.self.view_is
