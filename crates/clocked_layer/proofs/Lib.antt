@@ -16,5 +16,6 @@ mod TimedLemmas
 mod PostLemmas
 mod ClockLemmas
 mod OpeningLemmas
+mod AddingLemmas
 mod MachineLemmas
 mod ClockedLemmas

@@ -5,12 +5,12 @@ use Rattle.std.proofs.lemmas.Grind.{flat_map-append}
 use Rattle.std.proofs.lemmas.List.FromFn.{map-range_with_len_more}
 use Rattle.std.proofs.lemmas.List.Sorted.{length_permutation}
 use Rattle.event_queue.proofs.TurnLaws.{inserted_permutes}
-use Rattle.clock_model.specs.Order.{begin_of, block_begin, send_of, sync_of, vote_of}
-use Rattle.clocked_layer.specs.Events.{delivery, fresh_events, own_event, own_events}
-use Rattle.clocked_layer.specs.Opening.{AddsUpTo}
+use Rattle.clock_model.specs.Order.{block_begin}
+use Rattle.clocked_layer.specs.Events.{delivery, fresh_events}
+use Rattle.clocked_layer.specs.Opening.{AddsUpTo, moment_at, moment_event}
+use Rattle.clocked_layer.specs.declared.ticks.Moment.{Moment}
 use Rattle.event_queue.specs.Agenda.{EventQueue, in_turn_from, inserted, with_event}
 use Rattle.event_queue.specs.declared.event.Event.{Event}
-use Rattle.event_queue.specs.declared.event.EventKind.TheVariants.{Begin, Send, Sync, Vote}
 use Rattle.rcp_model.specs.FrameRows.{FrameRows, is_down}
 use Rattle.rcp_model.specs.Messages.{Letter, arrival_of, goes_out, is_up, is_voted, letter_to, message_to, own_message}
 use Rattle.rcp_model.specs.System.{SystemState, computed_cells, fresh_letter}
@@ -28,7 +28,7 @@ one_added old new event some is =
 
 -- Pieces that are added one after the other.
 
-in_turn_from-append : (done xs ys : List Event)
+pub in_turn_from-append : (done xs ys : List Event)
     → in_turn_from done (xs ++ ys) ≡ in_turn_from (in_turn_from done xs) ys
 in_turn_from-append done [] ys = refl
 in_turn_from-append done (x ∷ xs) ys = in_turn_from-append (inserted x done) xs ys
@@ -52,49 +52,20 @@ added_more piece done a b n first second =
     (ap (flat_map piece) (more_numbers n) ∙ flat_map-append piece (range_with_len 0 n) (n ∷ [])
     ∙ ap (λ x. flat_map piece (range_with_len 0 n) ++ x) (append-nil (piece n))))
 
--- Events of a replica's own.
+-- Moments of a replica's own.
 
 up_is : (plan : PlanParts) (rows : FrameRows) (q : ℕ) → q < plan.replicas
     → is_up plan rows q ≡ not (is_down rows q)
 up_is plan rows q below = ap (λ t. t && not (is_down rows q)) (lt-ltb q plan.replicas below)
 
-pub own_added : (plan : PlanParts) (frame : ℕ) (rows : FrameRows) (q : ℕ)
-    (done a b c d : List Event) (begin send vote sync : ℤ)
-    → q < plan.replicas → is_down rows q ≡ false
-    → begin ≡ begin_of plan frame rows q → send ≡ send_of plan frame rows q
-    → vote ≡ vote_of plan frame rows q → sync ≡ sync_of plan frame rows q
-    → a ≡ inserted (own_event Begin frame q begin) done
-    → b ≡ inserted (own_event Send frame q send) a
-    → c ≡ inserted (own_event Vote frame q vote) b
-    → d ≡ inserted (own_event Sync frame q sync) c
-    → d ≡ in_turn_from done (own_events plan frame rows q)
-own_added plan frame rows q done a b c d begin send vote sync below up eb es ev ey ia ib ic id =
-    id ∙ ap₂ (λ t x. inserted (own_event Sync frame q t) x) ey
-    (ic ∙ ap₂ (λ t x. inserted (own_event Vote frame q t) x) ev
-    (ib ∙ ap₂ (λ t x. inserted (own_event Send frame q t) x) es
-    (ia ∙ ap (λ t. inserted (own_event Begin frame q t) done) eb)))
-    ∙ sym (ap (λ t. in_turn_from done (cond t four []))
+pub moment_added : (plan : PlanParts) (frame : ℕ) (rows : FrameRows) (moment : Moment) (q : ℕ)
+    (done new : List Event) → q < plan.replicas → is_down rows q ≡ false
+    → new ≡ inserted (moment_event plan frame rows moment q) done
+    → new ≡ in_turn_from done (moment_at plan frame rows moment q)
+moment_added plan frame rows moment q done new below up is =
+    is
+    ∙ sym (ap (λ t. in_turn_from done (cond t (moment_event plan frame rows moment q ∷ []) []))
     (up_is plan rows q below ∙ ap not up))
-  where
-    four : List Event
-    four =
-        own_event Begin frame q (begin_of plan frame rows q)
-        ∷ own_event Send frame q (send_of plan frame rows q)
-        ∷ own_event Vote frame q (vote_of plan frame rows q)
-        ∷ own_event Sync frame q (sync_of plan frame rows q) ∷ []
-
-pub none_added : (plan : PlanParts) (frame : ℕ) (rows : FrameRows) (q : ℕ) (done : List Event)
-    → q < plan.replicas → is_down rows q ≡ true
-    → done ≡ in_turn_from done (own_events plan frame rows q)
-none_added plan frame rows q done below down =
-    sym (ap (λ t. in_turn_from done (cond t four [])) (up_is plan rows q below ∙ ap not down))
-  where
-    four : List Event
-    four =
-        own_event Begin frame q (begin_of plan frame rows q)
-        ∷ own_event Send frame q (send_of plan frame rows q)
-        ∷ own_event Vote frame q (vote_of plan frame rows q)
-        ∷ own_event Sync frame q (sync_of plan frame rows q) ∷ []
 
 -- Deliveries of this frame know of a letter no more than that it goes out and when it arrives.
 

@@ -9,10 +9,11 @@ ghost use Rattle.replica_parts.specs.Places.{letter_in, post_at};
 ghost use Rattle.replica_parts.specs.Rooms.{ArePostRows};
 ghost use Rattle.replica_parts.specs.Setting.{HasPlanWith, IsSettingOf};
 ghost use Rattle.clocked_layer.specs.Events as events;
-ghost use Rattle.clocked_layer.specs.Events.{block_events, events_at, events_from, fresh_events, late_events, own_events};
-ghost use Rattle.clocked_layer.specs.Opening.{AddsUpTo, IsTimingWith};
+ghost use Rattle.clocked_layer.specs.Events.{block_events, events_from, fresh_events, late_events};
+ghost use Rattle.clocked_layer.specs.Opening as opening;
+ghost use Rattle.clocked_layer.specs.Opening.{AddsUpTo, IsTimingWith, deliveries, deliveries_to, moment_at, moment_events};
 
-use crate::ticks::{begin_of, send_of, sync_of, vote_of};
+use crate::ticks::{Moment, begin_of, send_of, sync_of, vote_of};
 use event_queue::{Agenda, Event, EventKind};
 use layer_stack::FrameIn;
 use rcp_model::Timing;
@@ -44,26 +45,76 @@ fn delivery(frame: u32, receiver: u32, sender: u32, tick: i64) -> Event
     }
 }
 
-// Adds a replica's own events, where it is up.
-fn add_own(agenda: &mut Agenda, timing: &Timing, frame: u32, input: &FrameIn, replica: u32)
+// The event of a moment of a replica's own.
+fn moment_event(timing: &Timing, frame: u32, input: &FrameIn, moment: Moment, replica: u32) -> Event
+    requires of { IsTimingWith timing.now input.now }
+    requires frame { frame ≤ MAX_FRAMES }
+    requires replica { replica < input.now.replicas }
+    ensures { (plan : PlanParts) → plan.timing ≡ timing.now
+        → result ≡ opening.moment_event plan frame input.now moment replica }
+{
+    match moment {
+        Moment::Begins => {
+            let tick = begin_of(timing, frame, input, replica);
+            own_event(EventKind::Begin, frame, replica, tick)
+        }
+        Moment::Sends => {
+            let tick = send_of(timing, frame, input, replica);
+            own_event(EventKind::Send, frame, replica, tick)
+        }
+        Moment::Votes => {
+            let tick = vote_of(timing, frame, input, replica);
+            own_event(EventKind::Vote, frame, replica, tick)
+        }
+        Moment::Syncs => {
+            let tick = sync_of(timing, frame, input, replica);
+            own_event(EventKind::Sync, frame, replica, tick)
+        }
+    }
+}
+
+// Adds a moment of a replica's own, where it is up.
+fn add_moment_at(
+    agenda: &mut Agenda,
+    timing: &Timing,
+    frame: u32,
+    input: &FrameIn,
+    moment: Moment,
+    replica: u32,
+)
     requires of { IsTimingWith timing.now input.now }
     requires frame { frame < MAX_FRAMES }
     requires replica { replica < input.now.replicas }
-    requires room { 4 ≤ agenda.old.spare }
+    requires room { 1 ≤ agenda.old.spare }
     ensures events { (plan : PlanParts) → plan.timing ≡ timing.now
         → plan.replicas ≡ input.now.replicas → agenda.new.left
-        ≡ in_turn_from agenda.old.left (own_events plan frame input.now replica) }
-    ensures room { AddsUpTo 4 agenda.old agenda.new }
+        ≡ in_turn_from agenda.old.left (moment_at plan frame input.now moment replica) }
+    ensures room { AddsUpTo 1 agenda.old agenda.new }
 {
     if !input.down(replica) {
-        let begin = begin_of(timing, frame, input, replica);
-        let send = send_of(timing, frame, input, replica);
-        let vote = vote_of(timing, frame, input, replica);
-        let sync = sync_of(timing, frame, input, replica);
-        agenda.add(own_event(EventKind::Begin, frame, replica, begin));
-        agenda.add(own_event(EventKind::Send, frame, replica, send));
-        agenda.add(own_event(EventKind::Vote, frame, replica, vote));
-        agenda.add(own_event(EventKind::Sync, frame, replica, sync));
+        agenda.add(moment_event(timing, frame, input, moment, replica));
+    }
+}
+
+// Adds a moment of all replicas.
+fn add_moment(
+    agenda: &mut Agenda,
+    setting: &Setting,
+    timing: &Timing,
+    frame: u32,
+    input: &FrameIn,
+    moment: Moment,
+)
+    requires of { HasPlanWith setting.now input.now }
+    requires timing { timing.now ≡ setting.now.timing }
+    requires frame { frame < MAX_FRAMES }
+    requires room { setting.now.replicas ≤ agenda.old.spare }
+    ensures events { (plan : PlanParts) → IsSettingOf plan setting.now → agenda.new.left
+        ≡ in_turn_from agenda.old.left (moment_events plan frame input.now moment) }
+    ensures room { AddsUpTo setting.now.replicas agenda.old agenda.new }
+{
+    for replica in 0..setting.replicas() {
+        add_moment_at(agenda, timing, frame, input, moment, replica);
     }
 }
 
@@ -133,34 +184,55 @@ fn add_from(
     add_late(agenda, frame, receiver, sender, place);
 }
 
-// Adds what happens at a replica.
-fn add_at(
+// Adds what comes to a receiver.
+fn add_to(
     agenda: &mut Agenda,
     setting: &Setting,
-    timing: &Timing,
     frame: u32,
     input: &FrameIn,
     late: &[Vec<Post>],
-    replica: u32,
+    receiver: u32,
 )
     requires of { HasPlanWith setting.now input.now }
-    requires timing { timing.now ≡ setting.now.timing }
     requires frame { frame < MAX_FRAMES }
     requires late { ArePostRows setting.now late.now }
-    requires replica { replica < setting.now.replicas }
-    requires room { 4 + 2 * setting.now.replicas ≤ agenda.old.spare }
+    requires receiver { receiver < setting.now.replicas }
+    requires room { 2 * setting.now.replicas ≤ agenda.old.spare }
     ensures events { (plan : PlanParts) (state : SystemState) → IsSettingOf plan setting.now
         → state.done ≡ frame → post_at late.now ≡ state.letters → agenda.new.left
-        ≡ in_turn_from agenda.old.left (events_at plan state input.now replica) }
-    ensures room { AddsUpTo (4 + 2 * setting.now.replicas) agenda.old agenda.new }
+        ≡ in_turn_from agenda.old.left (deliveries_to plan state input.now receiver) }
+    ensures room { AddsUpTo (2 * setting.now.replicas) agenda.old agenda.new }
 {
-    add_own(agenda, timing, frame, input, replica);
     for sender in 0..setting.replicas() {
-        add_from(agenda, setting, frame, input, late, replica, sender);
+        add_from(agenda, setting, frame, input, late, receiver, sender);
     }
 }
 
-/// Adds the events of the block of a frame. Takes no memory.
+// Adds what comes to all receivers.
+fn add_deliveries(
+    agenda: &mut Agenda,
+    setting: &Setting,
+    frame: u32,
+    input: &FrameIn,
+    late: &[Vec<Post>],
+)
+    requires of { HasPlanWith setting.now input.now }
+    requires frame { frame < MAX_FRAMES }
+    requires late { ArePostRows setting.now late.now }
+    requires room { 2 * setting.now.replicas * setting.now.replicas ≤ agenda.old.spare }
+    ensures events { (plan : PlanParts) (state : SystemState) → IsSettingOf plan setting.now
+        → state.done ≡ frame → post_at late.now ≡ state.letters → agenda.new.left
+        ≡ in_turn_from agenda.old.left (deliveries plan state input.now) }
+    ensures room { AddsUpTo (2 * setting.now.replicas * setting.now.replicas)
+        agenda.old agenda.new }
+{
+    for receiver in 0..setting.replicas() {
+        add_to(agenda, setting, frame, input, late, receiver);
+    }
+}
+
+/// Adds the events of the block of a frame. Takes no memory. They are added moment by moment, since
+/// each then comes behind those before it, in most frames.
 pub(crate) fn add_all(
     agenda: &mut Agenda,
     setting: &Setting,
@@ -180,7 +252,9 @@ pub(crate) fn add_all(
     ensures room { AddsUpTo ((4 + 2 * setting.now.replicas) * setting.now.replicas)
         agenda.old agenda.new }
 {
-    for replica in 0..setting.replicas() {
-        add_at(agenda, setting, timing, frame, input, late, replica);
-    }
+    add_moment(agenda, setting, timing, frame, input, Moment::Begins);
+    add_moment(agenda, setting, timing, frame, input, Moment::Sends);
+    add_deliveries(agenda, setting, frame, input, late);
+    add_moment(agenda, setting, timing, frame, input, Moment::Votes);
+    add_moment(agenda, setting, timing, frame, input, Moment::Syncs);
 }

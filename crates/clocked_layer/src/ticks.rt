@@ -10,6 +10,15 @@ use clock_model::{begin, send, sync, vote};
 use layer_stack::FrameIn;
 use rcp_model::Timing;
 
+/// A moment of a replica's own, in the order in which they come.
+#[derive(Clone, Copy, Debug)]
+pub(crate) enum Moment {
+    Begins,
+    Sends,
+    Votes,
+    Syncs,
+}
+
 /// Where it begins.
 pub(crate) fn begin_of(timing: &Timing, frame: u32, input: &FrameIn, replica: u32) -> i64
     requires of { IsTimingWith timing.now input.now }

@@ -1,19 +1,18 @@
-use Rattle.std.proofs.Common.{◌≡◌, ◌+◌, ◌*◌}
+use Rattle.std.proofs.Common.{◌≡◌, ◌*◌}
 use Rattle.std.specs.List.{flat_map, range_with_len}
-use Rattle.clocked_layer.specs.Events.{events_at}
-use Rattle.clocked_layer.specs.Opening.{AddsUpTo}
+use Rattle.clocked_layer.specs.Opening.{AddsUpTo, deliveries_to}
 use Rattle.event_queue.specs.Agenda.{in_turn_from}
 use Rattle.rcp_model.specs.System.{SystemState}
 use Rattle.rcp_model.specs.declared.plan.PlanParts.{PlanParts}
 use Rattle.replica_parts.specs.Places.{post_at}
 use Rattle.replica_parts.specs.Setting.{IsSettingOf}
-use Rattle.clocked_layer.proofs.opening.add_all.Given as goal
+use Rattle.clocked_layer.proofs.opening.add_deliveries.Given as goal
 
-abbrev pub invariant-loop-replica : goal.invariant-loop-replica
-invariant-loop-replica l = record {
-  room : AddsUpTo ((4 + 2 * l.setting.replicas) * l.replica) l.fn.agenda l.agenda;
+abbrev pub invariant-loop-receiver : goal.invariant-loop-receiver
+invariant-loop-receiver l = record {
+  room : AddsUpTo (2 * l.setting.replicas * l.receiver) l.fn.agenda l.agenda;
   added : (plan : PlanParts) (state : SystemState) → IsSettingOf plan l.setting
       → state.done ≡ l.frame → post_at l.late ≡ state.letters
       → l.agenda.left ≡ in_turn_from l.fn.agenda.left
-      (flat_map (events_at plan state l.input) (range_with_len 0 l.replica));
+      (flat_map (deliveries_to plan state l.input) (range_with_len 0 l.receiver));
 }
