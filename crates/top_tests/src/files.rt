@@ -1,6 +1,9 @@
 //! Task files of the tests beside the example plans, and a journal.
 //! This project's own.
+use crate::case::replaced;
 use example_plans::{COUNTER, MOTOR, PITCH};
+use std::alloc::Global;
+use std::test::Fail;
 
 /// A position loop of two cells.
 pub const POSITION: &str = r#"replicas = 1
@@ -24,4 +27,12 @@ pub fn file_named(name: &str) -> Option<&'static str> {
         "position" => Some(POSITION),
         _ => None,
     }
+}
+
+/// The counter with a body that sets its cell to 1, in so many brackets.
+pub fn in_brackets(alloc: Global, count: usize) -> Result<String, Fail> {
+    let open = "(".repeat(alloc, count)?;
+    let close = ")".repeat(alloc, count)?;
+    let body = format!(in alloc; "n := {}1{};", open.as_str(), close.as_str())?;
+    replaced(alloc, COUNTER, "n := n + 1;", body.as_str())
 }

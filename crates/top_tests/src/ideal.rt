@@ -2,6 +2,7 @@
 //! This project's own.
 use crate::call::check;
 use crate::case::{check_all, parted, replaced};
+use crate::files::in_brackets;
 use example_plans::{COUNTER, MOTOR};
 use std::alloc::{AllocError, Global};
 use std::process::Abort;
@@ -201,4 +202,12 @@ fn expressions_have_their_values(rt: HostRuntime) -> Result<(), Fail> {
         check_value(&rt, rt.alloc(), line)?;
     }
     Ok(())
+}
+
+#[test]
+fn brackets_are_read_64_deep(rt: HostRuntime) -> Result<(), Fail> {
+    let file = in_brackets(rt.alloc(), 64)?;
+    let text = frame_text(rt.alloc(), "1")?;
+    let files = (file.as_bytes(), ONE_FRAME.as_bytes());
+    check(&rt, rt.alloc(), "ideal T J", files, ("0", text.as_str()))
 }

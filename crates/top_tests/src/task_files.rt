@@ -2,7 +2,7 @@
 //! This project's own.
 use crate::call::{FORMS_OF_FILE, FORMS_OF_JOURNAL, check_forms, check_runs};
 use crate::case::{changed_often, parted, replaced};
-use crate::files::TWO_FRAMES;
+use crate::files::{TWO_FRAMES, in_brackets};
 use example_plans::{COUNTER, MOTOR};
 use std::alloc::Global;
 use std::process::Abort;
@@ -203,4 +203,10 @@ fn long_bodied(alloc: Global) -> Result<String, Fail> {
 fn a_longer_text_is_refused(rt: HostRuntime) -> Result<(), Fail> {
     let file = long_bodied(rt.alloc())?;
     check_fault(&rt, rt.alloc(), file.as_bytes(), "E03 task[0].body")
+}
+
+#[test]
+fn the_bracket_past_the_64th_is_refused(rt: HostRuntime) -> Result<(), Fail> {
+    let file = in_brackets(rt.alloc(), 65)?;
+    check_fault(&rt, rt.alloc(), file.as_bytes(), "E05 task[0].body byte 69")
 }
