@@ -1,13 +1,7 @@
--- What a verdict on a plan's pattern says.
-use Rattle.std.proofs.Common.{◌≡◌, ℕ, ◌<◌, List, length, cond, Result, Ok, Err, IfOk, refl, inl, inr, sym, ap, ◌∙◌}
+-- Files that are seen up to their limits are judged as the whole files.
+use Rattle.std.proofs.Common.{◌≡◌, ℕ, ◌<◌, List, length, cond, Err, refl, inl, inr, sym, ap, ◌∙◌}
 use Rattle.std.proofs.lemmas.Bool.{lt-leb}
-use Rattle.rcp_base.specs.declared.memory.Memory.{Memory}
-use Rattle.rcp_model.specs.Walk.{Graph}
 use Rattle.rcp_model.specs.declared.plan.PlanParts.{PlanParts}
-use Rattle.recovery_analysis.specs.declared.verdict.Verdict as verdicts
-use Rattle.recovery_analysis.specs.Verdict.{IsVerdictOfGraphs, verdict_of}
-use Rattle.task_graph.specs.Rows.{Rows, AreFeedsOf}
-use Rattle.vote_pattern.specs.Votes.{Votes, AreVotesOf}
 use Rattle.fault_journal.specs.declared.fault.JournalFault.TheVariants as journal_fault
 use Rattle.fault_journal.specs.History.{journal_result}
 use Rattle.fault_journal.specs.Journal.{journal_rows, rows_of_records, records_of}
@@ -16,12 +10,6 @@ use Rattle.rcp_base.specs.Answers.{◌>>=◌}
 use Rattle.task_file.specs.Shape.{sections_of}
 use Rattle.task_file.specs.TaskFile.{task_file_result, document_of, parts_of_sections}
 use Rattle.rcp_top.specs.Finds.{IsSeenUpTo}
-
--- the verdict on the rows and votes of a graph
-pub judged_graph : (g : Graph) (rows : Rows) (votes : Votes) (result : Result verdicts.Verdict Memory) → IfOk result (IsVerdictOfGraphs rows votes)
-    → AreFeedsOf g rows → AreVotesOf g votes → IfOk result (λ verdict. verdict ≡ verdict_of g)
-judged_graph g rows votes (Err e) is feeds pattern = tt
-judged_graph g rows votes (Ok verdict) is feeds pattern = is g feeds pattern
 
 -- a journal over the limit is refused
 long_rows : (plan : PlanParts) (bytes : List ℕ) → 67108864 < length bytes → journal_rows plan bytes ≡ Err journal_fault.TooLong

@@ -11,6 +11,7 @@ use Rattle.fault_journal.specs.declared.fault.JournalFault.{JournalFault}
 use Rattle.fault_journal.specs.declared.journal.Journal.{Journal}
 use Rattle.fault_journal.specs.History.{journal_result}
 use Rattle.fault_journal.specs.Telling.{IsJournalOf, history_in}
+use Rattle.task_graph.specs.Rows.{IsDependenceOf}
 use Rattle.rcp_top.specs.declared.judge.Judged.{Judged}
 use Rattle.rcp_top.specs.declared.stop.Refusal.{Refusal}
 use Rattle.rcp_top.specs.declared.stop.Refusal.TheVariants as refusal
@@ -44,10 +45,11 @@ history_at plan journal = do
 abbrev pub shown : List ℕ → Reading (List ℕ)
 shown text = Reading.gives (Ok text)
 
--- this plan, whose pattern has no unvoted cycle, with its recovery length and walk
+-- this plan, whose pattern has no unvoted cycle, with the cells that each cell needs, and its recovery length and walk
 pub record IsJudged (judged : Judged) (plan : PlanParts) : Type 0 where
   pub is : judged.plan ≡ plan
   pub good : has_cycle (graph_of_plan plan) ≡ false
+  pub rows : IsDependenceOf plan judged.rows
   pub length : judged.length ≡ recovery_length (graph_of_plan plan)
   pub walk : judged.walk ≡ witness_walk (graph_of_plan plan)
 

@@ -12,7 +12,7 @@ ghost use Rattle.rcp_top.specs.Reading.{End, file_at};
 ghost use Rattle.rcp_top.specs.Read as spec;
 ghost use Rattle.rcp_top.specs.Read.{IsJudged, IsJournal};
 
-use crate::judge::{Judged, judge};
+use crate::judge::{Judged, Judgement, judge};
 use crate::stop::{Refusal, Stop};
 use fault_journal::Journal;
 use rcp_base::{Folder, MAX_JOURNAL, MAX_TASK_FILE, ReadError};
@@ -109,8 +109,14 @@ fn plan_in<'a>(alloc: Global, bytes: &[u8]) -> Result<Judged, Stop<'a>>
 fn judged<'a>(alloc: Global, plan: Plan) -> Result<Judged, Stop<'a>>
     ensures { TellsEnd IsJudged result (End.gave (spec.good_plan (Ok plan))) }
 {
-    match judge(alloc, &plan)? {
-        Verdict::Recovers { length, walk } => Ok(Judged { plan, length, walk }),
+    let Judgement { rows, verdict } = judge(alloc, &plan)?;
+    match verdict {
+        Verdict::Recovers { length, walk } => Ok(Judged {
+            plan,
+            rows,
+            length,
+            walk,
+        }),
         Verdict::Cycle { nodes } => Err(Stop::Refused(Refusal::Pattern { plan, cycle: nodes })),
     }
 }

@@ -5,6 +5,7 @@ ghost use Rattle.rcp_base.specs.States.{IsLater};
 ghost use Rattle.rcp_base.specs.Writing.{Writes};
 ghost use Rattle.rcp_model.specs.PlanGraph.{graph_of_plan};
 ghost use Rattle.rcp_model.specs.Levels.{has_cycle};
+ghost use Rattle.task_graph.specs.Rows.{IsDependenceOf};
 ghost use Rattle.vote_pattern.specs.Votes.{AreVotesOf};
 ghost use Rattle.rcp_top.specs.Finds.{Finds};
 ghost use Rattle.rcp_top.specs.Thin as spec;
@@ -51,9 +52,12 @@ pub fn read_thin<'a, F: Folder>(
         (thin_of file.now) result }
     ensures later { IsLater (F.state folder.old) (F.state folder.new) }
 {
-    let plan = read_plan_at(alloc, folder, file)?.plan;
-    let thinned = thinned_pattern(alloc, &plan)?;
-    Ok(Thin { plan, thinned })
+    let judged = read_plan_at(alloc, folder, file)?;
+    let thinned = thinned_pattern(alloc, &judged.plan, &judged.rows)?;
+    Ok(Thin {
+        plan: judged.plan,
+        thinned,
+    })
 }
 
 // The limit on recovery that is kept, if there is one.
@@ -66,14 +70,14 @@ fn limit_of(plan: &Plan) -> Option<u32>
 }
 
 // The thinned pattern of a plan whose pattern has no unvoted cycle.
-fn thinned_pattern(alloc: Global, plan: &Plan) -> Result<Thinned, Memory>
-    requires { has_cycle (graph_of_plan plan.now) ≡ false }
+fn thinned_pattern(alloc: Global, plan: &Plan, rows: &DepRows) -> Result<Thinned, Memory>
+    requires rows { IsDependenceOf plan.now rows.now }
+    requires good { has_cycle (graph_of_plan plan.now) ≡ false }
     ensures { IfOk result (IsThinned plan.now) }
 {
-    let rows = DepRows::build(alloc, plan)?;
     let mut pattern = Pattern::of(alloc, plan)?;
-    let spared = thin(alloc, &rows, &mut pattern, limit_of(plan))?;
-    match analyse(alloc, &rows, &pattern)? {
+    let spared = thin(alloc, rows, &mut pattern, limit_of(plan))?;
+    match analyse(alloc, rows, &pattern)? {
         Verdict::Recovers { length, walk } => Ok(Thinned {
             pattern,
             spared,
