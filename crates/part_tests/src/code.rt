@@ -127,7 +127,7 @@ fn a_task_gives_a_value_for_each_set(rt: HostRuntime) -> Result<(), Fail> {
     let alloc = rt.alloc();
     let task = small_task(alloc)?;
     let code = compile(alloc, &task)?;
-    assert_eq!(rt; code.len(), 16);
+    assert_eq!(rt; code.len(), 12);
     assert_eq!(rt; code.room(), 2);
     let values = values_in::<Brand>(alloc, &task, &[5], &[10, 20], Blank::new(1))?;
     assert_eq!(rt; values.as_slice(), [3, -20].as_slice());

@@ -1,4 +1,6 @@
+mod OperandLemmas
 mod RunLemmas
+mod LeafLemmas
 pub mod SizeLaws
 mod StackLemmas
 mod LoopLemmas

@@ -13,8 +13,9 @@ use Rattle.rcp_model.specs.Task.{let_values, let_values_after}
 use Rattle.task_code.specs.declared.instruction.Instruction.{Instruction}
 use Rattle.task_code.specs.declared.instruction.Instruction.TheVariants.{Neg, Not, Abs, Two, Clamp, If, Keep, Give}
 use Rattle.task_code.specs.Machine.{State, start, run, push, results}
-use Rattle.task_code.specs.Compiler.{code_of, code_step, lets_code, sets_code, task_code, expr_code}
+use Rattle.task_code.specs.Compiler.{code_of, code_step, with_operand, lets_code, sets_code, task_code, expr_code}
 use Rattle.task_code.specs.Correct.{set_values}
+use Rattle.task_code.proofs.OperandLemmas.{runs_operand}
 
 -- a code puts a value on the stack, whatever follows
 abbrev Pushes : List Instruction → Value → Type 0
@@ -27,9 +28,6 @@ PushesValue e = Pushes (code_of e) (value_of e)
 
 one_operand : (a c rest : List Instruction) → (a ++ c) ++ rest ≡ a ++ (c ++ rest)
 one_operand a c rest = simp append_assoc
-
-two_operands : (a b c rest : List Instruction) → (a ++ (b ++ c)) ++ rest ≡ a ++ (b ++ (c ++ rest))
-two_operands a b c rest = simp append_assoc
 
 three_operands : (a b d c rest : List Instruction) → (a ++ (b ++ (d ++ c))) ++ rest ≡ a ++ (b ++ (d ++ (c ++ rest)))
 three_operands a b d c rest = simp append_assoc
@@ -47,8 +45,9 @@ pushes_level (Expr-F.Not x) sensors cells rest s =
 pushes_level (Expr-F.Abs x) sensors cells rest s =
     ap (λ code. run sensors cells code s) (one_operand (code_of x.0) (Abs ∷ []) rest) ∙ x.1 sensors cells (Abs ∷ rest) s
 pushes_level (Expr-F.Two op a b) sensors cells rest s =
-    ap (λ code. run sensors cells code s) (two_operands (code_of a.0) (code_of b.0) (Two op ∷ []) rest)
-    ∙ a.1 sensors cells (code_of b.0 ++ Two op ∷ rest) s
+    ap (λ code. run sensors cells code s) (one_operand (code_of a.0) (with_operand op (code_of b.0)) rest)
+    ∙ a.1 sensors cells (with_operand op (code_of b.0) ++ rest) s
+    ∙ runs_operand sensors cells op (code_of b.0) rest (push (value_of a.0 s.lets sensors cells) s)
     ∙ b.1 sensors cells (Two op ∷ rest) (push (value_of a.0 s.lets sensors cells) s)
 pushes_level (Expr-F.Clamp x low high) sensors cells rest s =
     let first : State = push (value_of x.0 s.lets sensors cells) s in

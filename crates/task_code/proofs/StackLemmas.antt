@@ -1,7 +1,7 @@
 -- How many numbers stand on the stack.
 use Rattle.std.proofs.Common.{◌≡◌, ◌-◌, ℤ, List, [], ◌∷◌, length, refl, length-append, arith}
 use Rattle.task_code.specs.declared.instruction.Instruction.{Instruction}
-use Rattle.task_code.specs.declared.instruction.Instruction.TheVariants.{Number, Sensor, Cell, Let, Neg, Not, Abs, Two, Clamp, If, Keep, Give}
+use Rattle.task_code.specs.declared.instruction.Instruction.TheVariants.{Number, Sensor, Cell, Let, Neg, Not, Abs, Two, WithNumber, WithSensor, WithCell, WithLet, Clamp, If, Keep, Give}
 use Rattle.task_code.specs.Machine.{State, step, top_of, rest_of, height_after, lets_after}
 
 pub length_rest : (numbers : List ℤ) → length (rest_of numbers) ≡ length numbers - 1
@@ -18,6 +18,10 @@ height_step sensors cells Neg s = omega (arith, length_rest s.stack)
 height_step sensors cells Not s = omega (arith, length_rest s.stack)
 height_step sensors cells Abs s = omega (arith, length_rest s.stack)
 height_step sensors cells (Two op) s = omega (arith, length_rest s.stack, length_rest (rest_of s.stack))
+height_step sensors cells (WithNumber op n) s = omega (arith, length_rest s.stack)
+height_step sensors cells (WithSensor op n) s = omega (arith, length_rest s.stack)
+height_step sensors cells (WithCell op n) s = omega (arith, length_rest s.stack)
+height_step sensors cells (WithLet op n) s = omega (arith, length_rest s.stack)
 height_step sensors cells Clamp s = omega (arith, length_rest s.stack, length_rest (rest_of s.stack), length_rest (rest_of (rest_of s.stack)))
 height_step sensors cells If s = omega (arith, length_rest s.stack, length_rest (rest_of s.stack), length_rest (rest_of (rest_of s.stack)))
 height_step sensors cells Keep s = omega (arith, length_rest s.stack)
@@ -33,6 +37,10 @@ lets_step sensors cells Neg s = refl
 lets_step sensors cells Not s = refl
 lets_step sensors cells Abs s = refl
 lets_step sensors cells (Two op) s = refl
+lets_step sensors cells (WithNumber op n) s = refl
+lets_step sensors cells (WithSensor op n) s = refl
+lets_step sensors cells (WithCell op n) s = refl
+lets_step sensors cells (WithLet op n) s = refl
 lets_step sensors cells Clamp s = refl
 lets_step sensors cells If s = refl
 lets_step sensors cells Keep s = omega (arith, length-append s.lets (top_of s.stack ∷ []))

@@ -2,11 +2,25 @@
 use Rattle.std.specs.Prelude.{ℕ, ◌+◌, List, [], ◌∷◌, ◌++◌, length, sum_by}
 use Rattle.rcp_model.specs.declared.expr.Expr.{Expr, fold-Expr}
 use Rattle.rcp_model.specs.declared.expr.Expr.TheOpen.{Expr-F}
+use Rattle.rcp_model.specs.declared.expr.Op.{Op}
 use Rattle.rcp_model.specs.declared.task.LetRow.{LetRow}
 use Rattle.rcp_model.specs.declared.task.SetRow.{SetRow}
 use Rattle.rcp_model.specs.declared.task.Task.{Task}
 use Rattle.task_code.specs.declared.instruction.Instruction.{Instruction}
-use Rattle.task_code.specs.declared.instruction.Instruction.TheVariants.{Number, Sensor, Cell, Let, Neg, Not, Abs, Two, Clamp, If, Keep, Give}
+use Rattle.task_code.specs.declared.instruction.Instruction.TheVariants.{Number, Sensor, Cell, Let, Neg, Not, Abs, Two, WithNumber, WithSensor, WithCell, WithLet, Clamp, If, Keep, Give}
+
+-- an operator after its right operand's one instruction: a leaf goes into the operator's
+abbrev pub with_one : Op → Instruction → List Instruction
+with_one op (Number n) = WithNumber op n ∷ []
+with_one op (Sensor i) = WithSensor op i ∷ []
+with_one op (Cell i) = WithCell op i ∷ []
+with_one op (Let i) = WithLet op i ∷ []
+with_one op instruction = instruction ∷ Two op ∷ []
+
+-- an operator after the code of its right operand
+abbrev pub with_operand : Op → List Instruction → List Instruction
+with_operand op (instruction ∷ []) = with_one op instruction
+with_operand op code = code ++ Two op ∷ []
 
 -- the code of one level, over that of its operands
 abbrev pub code_step : Expr-F (List Instruction) → List Instruction
@@ -17,7 +31,7 @@ code_step (Expr-F.Let i) = Let i ∷ []
 code_step (Expr-F.Neg x) = x ++ Neg ∷ []
 code_step (Expr-F.Not x) = x ++ Not ∷ []
 code_step (Expr-F.Abs x) = x ++ Abs ∷ []
-code_step (Expr-F.Two op a b) = a ++ (b ++ Two op ∷ [])
+code_step (Expr-F.Two op a b) = a ++ with_operand op b
 code_step (Expr-F.Clamp x low high) = x ++ (low ++ (high ++ Clamp ∷ []))
 code_step (Expr-F.If test a b) = test ++ (a ++ (b ++ If ∷ []))
 

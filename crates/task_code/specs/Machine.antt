@@ -2,10 +2,11 @@
 use Rattle.std.specs.Prelude.{ℕ, ◌+◌, ◌-◌, max, ℤ, pos, not, List, [], ◌∷◌, ◌++◌, slice_index_or, if◌then◌else◌}
 use Rattle.std.specs.Int.{int_min, int_max}
 use Rattle.rcp_base.specs.Arithmetic.{negation_of, magnitude_of}
+use Rattle.rcp_model.specs.declared.expr.Op.{Op}
 use Rattle.rcp_model.specs.Expr.{is_true, truth, op_result}
 use Rattle.task_code.specs.Buffer.{Buffer}
 use Rattle.task_code.specs.declared.instruction.Instruction.{Instruction}
-use Rattle.task_code.specs.declared.instruction.Instruction.TheVariants.{Number, Sensor, Cell, Let, Neg, Not, Abs, Two, Clamp, If, Keep, Give}
+use Rattle.task_code.specs.declared.instruction.Instruction.TheVariants.{Number, Sensor, Cell, Let, Neg, Not, Abs, Two, WithNumber, WithSensor, WithCell, WithLet, Clamp, If, Keep, Give}
 
 -- the stack, its top first, the values of the lets, and the results so far
 pub record State : Type 0 where
@@ -47,6 +48,10 @@ abbrev pub three_topmost : (ℤ → ℤ → ℤ → ℤ) → List ℤ → List �
 three_topmost f numbers =
     f (top_of (rest_of (rest_of numbers))) (top_of (rest_of numbers)) (top_of numbers) ∷ rest_of (rest_of (rest_of numbers))
 
+-- an operator of the top and this right operand
+abbrev pub with_right : Op → ℤ → State → State
+with_right op b s = record s { stack = topmost (λ a. op_result op a b) s.stack }
+
 -- what one instruction does
 abbrev pub step : List ℤ → List ℤ → Instruction → State → State
 step sensors cells (Number n) s = push n s
@@ -57,6 +62,10 @@ step sensors cells Neg s = record s { stack = topmost negation_of s.stack }
 step sensors cells Not s = record s { stack = topmost (λ x. truth (not (is_true x))) s.stack }
 step sensors cells Abs s = record s { stack = topmost magnitude_of s.stack }
 step sensors cells (Two op) s = record s { stack = two_topmost (op_result op) s.stack }
+step sensors cells (WithNumber op n) s = with_right op n s
+step sensors cells (WithSensor op i) s = with_right op (slice_index_or sensors i (pos 0)) s
+step sensors cells (WithCell op i) s = with_right op (slice_index_or cells i (pos 0)) s
+step sensors cells (WithLet op i) s = with_right op (slice_index_or s.lets i (pos 0)) s
 step sensors cells Clamp s = record s { stack = three_topmost (λ x low high. int_max low (int_min x high)) s.stack }
 step sensors cells If s = record s { stack = three_topmost (λ test a b. if is_true test then a else b) s.stack }
 step sensors cells Keep s = record s { stack = rest_of s.stack; lets = s.lets ++ top_of s.stack ∷ [] }
@@ -81,6 +90,10 @@ height_after Neg height = height - 1 + 1
 height_after Not height = height - 1 + 1
 height_after Abs height = height - 1 + 1
 height_after (Two op) height = height - 1 - 1 + 1
+height_after (WithNumber op n) height = height - 1 + 1
+height_after (WithSensor op i) height = height - 1 + 1
+height_after (WithCell op i) height = height - 1 + 1
+height_after (WithLet op i) height = height - 1 + 1
 height_after Clamp height = height - 1 - 1 - 1 + 1
 height_after If height = height - 1 - 1 - 1 + 1
 height_after Keep height = height - 1

@@ -91,7 +91,13 @@ fn height_after(instruction: Instruction, height: u32) -> u32
         | Instruction::Sensor(_)
         | Instruction::Cell(_)
         | Instruction::Let(_) => height + 1,
-        Instruction::Neg | Instruction::Not | Instruction::Abs => height.saturating_sub(1) + 1,
+        Instruction::Neg
+        | Instruction::Not
+        | Instruction::Abs
+        | Instruction::WithNumber(_, _)
+        | Instruction::WithSensor(_, _)
+        | Instruction::WithCell(_, _)
+        | Instruction::WithLet(_, _) => height.saturating_sub(1) + 1,
         Instruction::Two(_) => height.saturating_sub(2) + 1,
         Instruction::Clamp | Instruction::If => height.saturating_sub(3) + 1,
         Instruction::Keep | Instruction::Give => height.saturating_sub(1),

@@ -1,11 +1,12 @@
 //! From trees to instructions.
 //! This project's own.
-ghost use Rattle.std.specs.Prelude.{◌≡◌, [], ◌∷◌, ◌++◌, OnOk};
-ghost use Rattle.task_code.specs.Compiler.{code_of, lets_code, sets_code};
+ghost use Rattle.std.specs.Prelude.{◌≡◌, [], ◌∷◌, ◌++◌, OnOk, MatchOption};
+ghost use Rattle.task_code.specs.Compiler.{code_of, lets_code, sets_code, with_operand};
+ghost use Rattle.task_code.specs.declared.instruction.Instruction.TheVariants.{Two};
 
 use crate::instruction::Instruction;
 use rcp_base::Memory;
-use rcp_model::{Expr, LetRow, SetRow};
+use rcp_model::{Expr, LetRow, Op, SetRow};
 
 /// Adds the instructions of an expression.
 pub fn emit_expr(code: &mut Vec<Instruction>, e: &Expr) -> Result<(), Memory>
@@ -30,6 +31,9 @@ pub fn emit_expr(code: &mut Vec<Instruction>, e: &Expr) -> Result<(), Memory>
         }
         Expr::Two(op, a, b) => {
             emit_expr(code, a.get())?;
+            if let Some(fused) = with_leaf(*op, b.get()) {
+                return put(code, fused);
+            }
             emit_expr(code, b.get())?;
             put(code, Instruction::Two(*op))
         }
@@ -45,6 +49,26 @@ pub fn emit_expr(code: &mut Vec<Instruction>, e: &Expr) -> Result<(), Memory>
             emit_expr(code, b.get())?;
             put(code, Instruction::If)
         }
+    }
+}
+
+// The operator with its right operand in it, where that is a leaf.
+fn with_leaf(op: Op, e: &Expr) -> Option<Instruction>
+    ensures { MatchOption result
+        (with_operand op (code_of e.now) ≡ code_of e.now ++ Two op ∷ [])
+        (λ fused. with_operand op (code_of e.now) ≡ fused ∷ []) }
+{
+    match e {
+        Expr::Number(n) => Some(Instruction::WithNumber(op, *n)),
+        Expr::Sensor(i) => Some(Instruction::WithSensor(op, *i)),
+        Expr::Cell(i) => Some(Instruction::WithCell(op, *i)),
+        Expr::Let(i) => Some(Instruction::WithLet(op, *i)),
+        Expr::Neg(_) => None,
+        Expr::Not(_) => None,
+        Expr::Abs(_) => None,
+        Expr::Two(_, _, _) => None,
+        Expr::Clamp(_, _, _) => None,
+        Expr::If(_, _, _) => None,
     }
 }
 

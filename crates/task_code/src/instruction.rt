@@ -13,6 +13,14 @@ pub enum Instruction {
     Not,
     Abs,
     Two(Op),
+    /// An operator whose right operand is this number.
+    WithNumber(Op, i64),
+    /// An operator whose right operand is this sensor.
+    WithSensor(Op, u16),
+    /// An operator whose right operand is this cell.
+    WithCell(Op, u16),
+    /// An operator whose right operand is this let.
+    WithLet(Op, u16),
     Clamp,
     If,
     /// Takes the top as the value of the next let.

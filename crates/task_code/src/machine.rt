@@ -100,6 +100,15 @@ impl Machine {
                 self.stack.push(abs(x));
             }
             Instruction::Two(op) => combine(&mut self.stack, op),
+            Instruction::WithNumber(op, n) => with_right(&mut self.stack, op, n),
+            Instruction::WithSensor(op, i) => {
+                with_right(&mut self.stack, op, value_at(sensors, i));
+            }
+            Instruction::WithCell(op, i) => with_right(&mut self.stack, op, value_at(cells, i)),
+            Instruction::WithLet(op, i) => {
+                let b = value_at(self.lets.as_slice(), i);
+                with_right(&mut self.stack, op, b);
+            }
             Instruction::Clamp => clamp(&mut self.stack),
             Instruction::If => choose(&mut self.stack),
             Instruction::Keep => {
@@ -124,6 +133,17 @@ fn combine(stack: &mut Stack, op: Op)
     } }
 {
     let b = stack.pop();
+    with_right(stack, op, b);
+}
+
+// Puts the operator's result, of the topmost number and this one, in the place of the topmost.
+#[tactic(auto, using(crate::proofs::StackLemmas::length_rest))]
+fn with_right(stack: &mut Stack, op: Op, b: i64)
+    requires { length stack.old.numbers - 1 + 1 ≤ stack.old.room }
+    ensures { stack.new ≡ record stack.old {
+      numbers = machine.topmost (λ a. expr.op_result op a b) stack.old.numbers;
+    } }
+{
     let a = stack.pop();
     stack.push(op_result(op, a, b));
 }
