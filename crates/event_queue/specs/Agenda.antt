@@ -1,9 +1,9 @@
 -- Events in rising order, and those of them that are due at once.
 -- After NASA TM-104196; the order is this project's own.
-use Rattle.std.specs.Prelude.{◌≡◌, ℕ, ◌+◌, ◌-◌, ◌<◌, ◌≤◌, ◌^◌, length, Bool, false, ◌&&◌, ◌==◌, List, [], ◌∷◌, if◌then◌else◌, ⊤}
+use Rattle.std.specs.Prelude.{◌≡◌, ℕ, ◌+◌, ◌-◌, ◌<◌, ◌≤◌, ◌^◌, length, Bool, false, ◌&&◌, ◌==◌, drop, List, [], ◌∷◌, if◌then◌else◌, ⊤}
 use Rattle.std.specs.List.{prefix_len, remove, AllByRecursion, Contains, All}
 use Rattle.std.specs.Ordering.{int_eq, is_lt}
-use Rattle.std.specs.VecDeque.{deque_capacity}
+use Rattle.std.specs.Vec.{vec_capacity}
 use Rattle.event_queue.specs.declared.event.Event.{Event}
 use Rattle.event_queue.specs.declared.agenda.Agenda.TheInside.{Inside}
 use Rattle.event_queue.specs.Event.{kind_rank, event_cmp, same_event, ComesBy}
@@ -54,19 +54,25 @@ pub record EventQueue : Type 0 where
   pub left : List Event
   pub spare : ℕ
 
+-- the events that are left: those that were taken from the front stand there still
+abbrev pub left_in : Inside → List Event
+left_in agenda = drop agenda.taken agenda.events.items
+
 -- what the fields of an agenda say
 abbrev pub queue_in : Inside → EventQueue
 queue_in agenda = record {
-  left = agenda.events.items;
-  spare = agenda.capacity - length agenda.events.items;
+  left = left_in agenda;
+  spare = agenda.capacity - length (left_in agenda);
 }
 
--- its events are in order, and there is room for all that it may have, which 32 bits can count
+-- what is left is in order, those due are counted, and there is room for all that it may have, which 32 bits can count
 pub record IsAgenda (agenda : Inside) : Type 0 where
   pub small : agenda.capacity < 2 ^ 32
-  pub turn : InTurn agenda.events.items
+  pub turn : InTurn (left_in agenda)
+  pub count : agenda.due ≡ due (left_in agenda)
+  pub front : agenda.taken ≤ length agenda.events.items
   pub fits : length agenda.events.items ≤ agenda.capacity
-  pub room : agenda.capacity ≤ deque_capacity agenda.events
+  pub room : agenda.capacity ≤ vec_capacity agenda.events
 
 -- a queue of no event
 abbrev pub empty_queue : ℕ → EventQueue
