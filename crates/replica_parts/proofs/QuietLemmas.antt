@@ -8,6 +8,7 @@ use Rattle.rcp_base.proofs.FillLaws.{is_table}
 use Rattle.replica_parts.proofs.HoldingLemmas.{same_held}
 use Rattle.replica_parts.proofs.LetterLemmas.{same_content}
 use Rattle.rcp_model.specs.declared.plan.PlanParts.{PlanParts}
+use Rattle.replica_parts.specs.Quiet.{AreAlike}
 use Rattle.rcp_model.specs.FrameRows.{is_down, is_dropped, skew_of, rate_of, delay_of, FrameRows, entry_at, cell_row, lie_row, lie_slot_row, slot_row}
 use Rattle.rcp_model.specs.Messages.{Letter, arrival_of, goes_out, letter_to, message_to}
 use Rattle.rcp_model.specs.RowWrites.{cleared}
@@ -100,3 +101,12 @@ module _ (rows : FrameRows) (quiet : rows ≡ cleared rows) where
   letter_is plan frame own sender receiver tick lt less is =
       ap (λ b. cond b (Some (the_letter tick own)) None) (sym (goes_to_others plan sender receiver lt less))
       ∙ ap₂ (λ t m. cond (goes_out plan rows sender receiver) (Some (the_letter t m)) None) (is ∙ same_arrival plan frame sender receiver) (message_kept own sender receiver)
+
+  pub all_alike : (plan : PlanParts) (frame : ℕ) → AreAlike plan frame rows
+  all_alike plan frame = record {
+    up = no_down;
+    skew = same_skew;
+    rate = same_rate;
+    goes = goes_to_others plan;
+    arrives = same_arrival plan frame;
+  }

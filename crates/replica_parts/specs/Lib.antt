@@ -4,5 +4,6 @@ pub mod Rooms
 pub mod Ballots
 pub mod States
 pub mod Windows
+pub mod Quiet
 pub mod Laws
 pub mod inner

@@ -1,4 +1,3 @@
 -- Words of private functions, which no promise cites. This project's own.
 pub mod Slots
 pub mod Agreement
-pub mod Arrivals

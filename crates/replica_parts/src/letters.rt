@@ -8,7 +8,7 @@ ghost use Rattle.rcp_base.specs.Tables.{table};
 ghost use Rattle.rcp_model.specs.declared.plan.PlanParts.{PlanParts};
 ghost use Rattle.rcp_model.specs.Messages.{letter_to, message_to};
 ghost use Rattle.rcp_model.specs.Messages as messages;
-ghost use Rattle.replica_parts.specs.inner.Arrivals.{IsQuietArrival};
+ghost use Rattle.replica_parts.specs.Quiet.{IsQuietArrival};
 ghost use Rattle.replica_parts.specs.Places.{letter_in, letters_in, letter_rows};
 ghost use Rattle.replica_parts.specs.Rooms.{AreMessages, ArePostRows, ArePosts, HasRoom, IsPost};
 ghost use Rattle.replica_parts.specs.Setting.{HasPlanWith, IsSettingOf};
@@ -73,8 +73,8 @@ fn write_by_rows(
     }
 }
 
-// The tick at which all letters of a frame arrive, if only sensors were written.
-fn quiet_arrival(setting: &Setting, frame: u32, input: &FrameIn) -> Option<i64>
+/// The tick at which all letters of a frame arrive, if only sensors were written.
+pub fn quiet_arrival(setting: &Setting, frame: u32, input: &FrameIn) -> Option<i64>
     requires of { HasPlanWith setting.now input.now }
     requires frame { frame ≤ MAX_FRAMES }
     ensures { IfSome result (IsQuietArrival setting.now frame input.now) }
@@ -86,8 +86,9 @@ fn quiet_arrival(setting: &Setting, frame: u32, input: &FrameIn) -> Option<i64>
     }
 }
 
-// Puts what goes out, with the tick at which all arrive where there is one.
-fn put_letter(
+/// Puts what goes out from a sender of this message to a receiver into a place, with the tick at which all
+/// arrive where there is one. Takes no memory.
+pub fn put_letter(
     setting: &Setting,
     frame: u32,
     input: &FrameIn,

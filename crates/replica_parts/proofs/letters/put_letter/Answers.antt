@@ -1,5 +1,5 @@
 use Rattle.replica_parts.proofs.QuietLemmas.{letter_is}
-use Rattle.replica_parts.specs.inner.Arrivals.{IsQuietArrival}
+use Rattle.replica_parts.specs.Quiet.{IsQuietArrival}
 use Rattle.std.proofs.Common.{Option, SFits, arith, rules, subst, w64, ℤ, ◌∙◌}
 use Rattle.std.proofs.lemmas.Int.{to_z-of_z}
 use Rattle.std.specs.Prelude.{IfSome}
