@@ -1,11 +1,19 @@
 -- A replica's clock, as the rows of a frame have it and as code reads it.
-use Rattle.std.proofs.Common.{◌≡◌, ℕ, ℤ, ◌≤◌, FitsSigned, w64, to_z, of_z, ap, subst, ◌∙◌, arith}
+use Rattle.std.specs.Prelude.{IfSome}
+use Rattle.std.proofs.Common.{◌≡◌, ℕ, ℤ, ◌≤◌, Option, None, Some, FitsSigned, w64, to_z, of_z, refl, ap, subst, ◌∙◌, arith}
 use Rattle.std.proofs.lemmas.Int.{ints, to_z-of_z}
 use Rattle.clock_model.specs.Moments.{IsClock, MayBegin}
 use Rattle.rcp_model.specs.FrameRows.{FrameRows, rate_of, skew_of}
+use Rattle.rcp_model.specs.RowWrites.{cleared}
 use Rattle.rcp_model.specs.TimingRules.{KeepsRules}
+use Rattle.rcp_model.specs.declared.plan.PlanParts.{PlanParts}
 use Rattle.rcp_model.specs.declared.plan.Timing.{Timing}
-use Rattle.clocked_layer.specs.Opening.{IsTimingWith}
+use Rattle.replica_parts.specs.Laws.{QuietFramesAreAlike}
+use Rattle.replica_parts.specs.Quiet.{AreAlike, IsQuietArrival}
+use Rattle.replica_parts.specs.declared.setting.Setting.{Setting}
+use Rattle.clocked_layer.specs.Opening.{ArriveTogether, ComeTogether, IsTimingWith, tick_of}
+use Rattle.clocked_layer.specs.declared.ticks.Moment.{Moment}
+use Rattle.clocked_layer.specs.declared.ticks.Moment.TheVariants.{Begins, Sends, Syncs, Votes}
 
 module _ (timing : Timing) (rows : FrameRows) (of : IsTimingWith timing rows) where
   pub rules_kept : KeepsRules timing
@@ -57,3 +65,37 @@ module _ (timing : Timing) (rows : FrameRows) (of : IsTimingWith timing rows) wh
       → skew ≡ skew_of rows replica → MayBegin timing frame (to_z w64 (of_z w64 skew))
   begin_seen frame replica skew h e =
       rw (skew_read replica skew e) ((clock_is frame replica h).begins)
+
+-- Ticks of a frame in which only sensors were written.
+
+pub same_tick : (plan : PlanParts) (frame : ℕ) (rows : FrameRows) (moment : Moment) (replica : ℕ)
+    → AreAlike plan frame rows
+    → tick_of plan frame rows moment 0 ≡ tick_of plan frame rows moment replica
+same_tick plan frame rows Begins replica alike =
+    rw (alike.skew 0, alike.skew replica) refl
+same_tick plan frame rows Sends replica alike =
+    rw (alike.skew 0, alike.rate 0, alike.skew replica, alike.rate replica) refl
+same_tick plan frame rows Votes replica alike =
+    rw (alike.skew 0, alike.rate 0, alike.skew replica, alike.rate replica) refl
+same_tick plan frame rows Syncs replica alike =
+    rw (alike.skew 0, alike.rate 0, alike.skew replica, alike.rate replica) refl
+
+pub all_come : (timing : Timing) (frame : ℕ) (rows : FrameRows) (moment : Moment) (tick : ℤ)
+    → QuietFramesAreAlike → IsTimingWith timing rows → rows ≡ cleared rows
+    → ((plan : PlanParts) → plan.timing ≡ timing → tick ≡ tick_of plan frame rows moment 0)
+    → ComeTogether timing frame rows moment tick
+all_come timing frame rows moment tick law of quiet is = record {
+  up = (law of.0 frame rows quiet).up;
+  comes = λ plan replica same.
+      is plan same ∙ same_tick plan frame rows moment replica (law plan frame rows quiet);
+}
+
+pub all_arrive : (setting : Setting) (frame : ℕ) (rows : FrameRows) (arrival : Option ℤ)
+    → QuietFramesAreAlike → IfSome arrival (IsQuietArrival setting frame rows)
+    → IfSome arrival (ArriveTogether setting frame rows)
+all_arrive setting frame rows None law quiet = tt
+all_arrive setting frame rows (Some tick) law quiet = record {
+  goes = λ plan p q s. (law plan frame rows quiet.quiet).goes p q;
+  arrives = λ plan p q s.
+      quiet.arrives plan s ∙ (law plan frame rows quiet.quiet).arrives p q;
+}

@@ -1,13 +1,13 @@
 -- Events as they are added to an agenda, one after the other.
 use Rattle.std.specs.List.{flat_map, range_with_len}
-use Rattle.std.proofs.Common.{◌≡◌, ℕ, ℤ, ◌<◌, ◌≤◌, ◌+◌, Bool, true, false, cond, not, ◌&&◌, int_lt, List, [], ◌∷◌, ◌++◌, length, None, Some, refl, sym, ap, ap₂, ◌∙◌, arith, lt-ltb, append-nil, map-id}
+use Rattle.std.proofs.Common.{◌≡◌, ℕ, ℤ, ◌<◌, ◌≤◌, ◌+◌, Bool, true, false, cond, not, ◌&&◌, int_lt, List, [], ◌∷◌, ◌++◌, length, Option, None, Some, refl, sym, ap, ap₂, ◌∙◌, arith, lt-ltb, append-nil, map-id}
 use Rattle.std.proofs.lemmas.Grind.{flat_map-append}
 use Rattle.std.proofs.lemmas.List.FromFn.{map-range_with_len_more}
 use Rattle.std.proofs.lemmas.List.Sorted.{length_permutation}
 use Rattle.event_queue.proofs.TurnLaws.{inserted_permutes}
 use Rattle.clock_model.specs.Order.{block_begin}
 use Rattle.clocked_layer.specs.Events.{delivery, fresh_events}
-use Rattle.clocked_layer.specs.Opening.{AddsUpTo, moment_at, moment_event}
+use Rattle.clocked_layer.specs.Opening.{AddsUpTo, arrival_in, moment_at, moment_event}
 use Rattle.clocked_layer.specs.declared.ticks.Moment.{Moment}
 use Rattle.event_queue.specs.Agenda.{EventQueue, in_turn_from, inserted, with_event}
 use Rattle.event_queue.specs.declared.event.Event.{Event}
@@ -67,18 +67,21 @@ moment_added plan frame rows moment q done new below up is =
     ∙ sym (ap (λ t. in_turn_from done (cond t (moment_event plan frame rows moment q ∷ []) []))
     (up_is plan rows q below ∙ ap not up))
 
--- Deliveries of this frame know of a letter no more than that it goes out and when it arrives.
+-- Deliveries of this frame know of a letter no more than when it arrives, if it goes out.
 
-abbrev arrives_at : PlanParts → ℕ → ℕ → ℕ → ℤ → List Event
-arrives_at plan frame q p tick =
+abbrev at_tick : PlanParts → ℕ → ℕ → ℕ → Option ℤ → List Event
+at_tick plan frame q p None = []
+at_tick plan frame q p (Some tick) =
     cond (int_lt tick (block_begin plan (frame + 1))) (delivery frame q p tick ∷ []) []
 
 fresh_is : (plan : PlanParts) (state : SystemState) (rows : FrameRows) (frame q p : ℕ)
+    → state.done ≡ frame
     → fresh_events plan frame q p (fresh_letter plan state rows q p)
-    ≡ cond (goes_out plan rows p q)
-    (arrives_at plan frame q p (arrival_of plan state.done rows p q)) []
+    ≡ at_tick plan frame q p (arrival_in plan frame rows p q)
 unfolding fresh_letter letter_to
-fresh_is plan state rows frame q p = go (goes_out plan rows p q)
+fresh_is plan state rows frame q p at =
+    go (goes_out plan rows p q)
+    ∙ ap (λ n. at_tick plan frame q p (arrival_in plan n rows p q)) at
   where
     letter : Letter
     letter = record {
@@ -88,23 +91,22 @@ fresh_is plan state rows frame q p = go (goes_out plan rows p q)
     }
 
     go : (t : Bool) → fresh_events plan frame q p (cond t (Some letter) None)
-        ≡ cond t (arrives_at plan frame q p (arrival_of plan state.done rows p q)) []
+        ≡ at_tick plan frame q p (cond t (Some (arrival_of plan state.done rows p q)) None)
     go true = refl
     go false = refl
 
 pub fresh_added : (plan : PlanParts) (state : SystemState) (rows : FrameRows) (frame q p : ℕ)
     (done new : List Event) (tick end : ℤ) (t : Bool)
-    → state.done ≡ frame → goes_out plan rows p q ≡ true
-    → tick ≡ arrival_of plan frame rows p q → end ≡ block_begin plan (frame + 1)
-    → int_lt tick end ≡ t → new ≡ cond t (inserted (delivery frame q p tick) done) done
+    → state.done ≡ frame → Some tick ≡ arrival_in plan frame rows p q
+    → end ≡ block_begin plan (frame + 1) → int_lt tick end ≡ t
+    → new ≡ cond t (inserted (delivery frame q p tick) done) done
     → new ≡ in_turn_from done (fresh_events plan frame q p (fresh_letter plan state rows q p))
-fresh_added plan state rows frame q p done new tick end t at goes arrives ends test added =
+fresh_added plan state rows frame q p done new tick end t at arrives ends test added =
     added ∙ split t
     ∙ sym (ap (in_turn_from done)
-    (fresh_is plan state rows frame q p
-    ∙ ap (λ u. cond u (arrives_at plan frame q p (arrival_of plan state.done rows p q)) []) goes
-    ∙ ap (λ n. arrives_at plan frame q p (arrival_of plan n rows p q)) at
-    ∙ ap₂ (λ x y. cond (int_lt x y) (delivery frame q p x ∷ []) []) (sym arrives) (sym ends)
+    (fresh_is plan state rows frame q p at
+    ∙ ap (at_tick plan frame q p) (sym arrives)
+    ∙ ap (λ x. cond (int_lt tick x) (delivery frame q p tick ∷ []) []) (sym ends)
     ∙ ap (λ u. cond u (delivery frame q p tick ∷ []) []) test))
   where
     split : (u : Bool) → cond u (inserted (delivery frame q p tick) done) done
@@ -113,12 +115,11 @@ fresh_added plan state rows frame q p done new tick end t at goes arrives ends t
     split false = refl
 
 pub stays_added : (plan : PlanParts) (state : SystemState) (rows : FrameRows) (frame q p : ℕ)
-    (done : List Event) → goes_out plan rows p q ≡ false
+    (done : List Event) → state.done ≡ frame → None ≡ arrival_in plan frame rows p q
     → done ≡ in_turn_from done (fresh_events plan frame q p (fresh_letter plan state rows q p))
-stays_added plan state rows frame q p done stays =
+stays_added plan state rows frame q p done at stays =
     sym (ap (in_turn_from done)
-    (fresh_is plan state rows frame q p
-    ∙ ap (λ u. cond u (arrives_at plan frame q p (arrival_of plan state.done rows p q)) []) stays))
+    (fresh_is plan state rows frame q p at ∙ ap (at_tick plan frame q p) (sym stays)))
 
 -- the rows have as many replicas as every plan that the setting is of
 pub same_rows : (setting : Setting) (rows : FrameRows) → HasPlanWith setting rows

@@ -1,24 +1,27 @@
 //! Letters on their way, in places by receiver and sender.
 //! This project's own.
-ghost use Rattle.std.specs.Prelude.{◌≡◌, ◌<◌, ◌≤◌, None};
+ghost use Rattle.std.specs.Prelude.{◌≡◌, ◌<◌, ◌≤◌, IfSome, None};
 ghost use Rattle.rcp_base.specs.declared.TheConstants.{MAX_FRAMES};
 ghost use Rattle.rcp_base.specs.Tables.{table};
 ghost use Rattle.rcp_model.specs.declared.plan.PlanParts.{PlanParts};
 ghost use Rattle.rcp_model.specs.Messages.{letter_to};
 ghost use Rattle.replica_parts.specs.Places.{letters_in, post_at};
+ghost use Rattle.replica_parts.specs.Quiet.{IsQuietArrival};
 ghost use Rattle.replica_parts.specs.Rooms.{ArePostRows, ArePosts, HasRoom};
 ghost use Rattle.replica_parts.specs.Setting.{HasPlanWith, IsSettingOf};
 ghost use Rattle.clocked_layer.specs.Block.{put_column, put_pair};
 
 use layer_stack::FrameIn;
 use mailbox::Message;
-use replica_parts::{Post, Setting, write_letter};
+use replica_parts::{Post, Setting, put_letter, quiet_arrival};
 
-// Puts what goes out from a sender to one receiver on its way.
+// Puts what goes out from a sender to one receiver on its way, with the tick at which all arrive where
+// there is one.
 fn post_to(
     setting: &Setting,
     frame: u32,
     input: &FrameIn,
+    arrival: Option<i64>,
     own: &Message,
     sender: u32,
     receiver: u32,
@@ -26,6 +29,7 @@ fn post_to(
 )
     requires of { HasPlanWith setting.now input.now }
     requires frame { frame ≤ MAX_FRAMES }
+    requires arrival { IfSome arrival (IsQuietArrival setting.now frame input.now) }
     requires sender { sender < setting.now.replicas }
     requires receiver { receiver < setting.now.replicas }
     requires own { HasRoom setting.now own.now }
@@ -35,10 +39,11 @@ fn post_to(
         (letter_to plan frame input.now own.now sender receiver) }
     ensures room { ArePostRows setting.now letters.new.items }
 {
-    write_letter(
+    put_letter(
         setting,
         frame,
         input,
+        arrival,
         own,
         sender,
         receiver,
@@ -65,8 +70,11 @@ pub(crate) fn post(
         (letter_to plan frame input.now own.now sender) }
     ensures room { ArePostRows setting.now letters.new.items }
 {
+    let arrival = quiet_arrival(setting, frame, input);
     for receiver in 0..setting.replicas() {
-        post_to(setting, frame, input, own, sender, receiver, letters);
+        post_to(
+            setting, frame, input, arrival, own, sender, receiver, letters,
+        );
     }
 }
 

@@ -1,6 +1,6 @@
 //! The events of a block, put into an agenda as it opens.
 //! After NASA TM-104196.
-ghost use Rattle.std.specs.Prelude.{◌≡◌, ◌<◌, ◌≤◌, ◌+◌, ◌-◌, ◌*◌};
+ghost use Rattle.std.specs.Prelude.{◌≡◌, ◌<◌, ◌≤◌, ◌+◌, ◌-◌, ◌*◌, IfSome};
 ghost use Rattle.event_queue.specs.Agenda.{in_turn_from};
 ghost use Rattle.rcp_base.specs.declared.TheConstants.{MAX_FRAMES};
 ghost use Rattle.rcp_model.specs.declared.plan.PlanParts.{PlanParts};
@@ -10,14 +10,13 @@ ghost use Rattle.replica_parts.specs.Rooms.{ArePostRows};
 ghost use Rattle.replica_parts.specs.Setting.{HasPlanWith, IsSettingOf};
 ghost use Rattle.clocked_layer.specs.Events as events;
 ghost use Rattle.clocked_layer.specs.Events.{block_events, events_from, fresh_events, late_events};
-ghost use Rattle.clocked_layer.specs.Opening as opening;
-ghost use Rattle.clocked_layer.specs.Opening.{AddsUpTo, IsTimingWith, deliveries, deliveries_to, moment_at, moment_events};
+ghost use Rattle.clocked_layer.specs.Opening.{AddsUpTo, AreTicksOf, ComeTogether, IsTimingWith, deliveries, deliveries_to, moment_at, moment_events};
 
-use crate::ticks::{Moment, begin_of, send_of, sync_of, vote_of};
+use crate::ticks::{BlockTicks, Moment, arrival_in, block_ticks, kind_of, quiet_tick, tick_of};
 use event_queue::{Agenda, Event, EventKind};
 use layer_stack::FrameIn;
 use rcp_model::Timing;
-use replica_parts::{Post, Setting, arrival_of, end_tick, goes_out};
+use replica_parts::{Post, Setting};
 
 // An event of a replica's own.
 fn own_event(kind: EventKind, frame: u32, replica: u32, tick: i64) -> Event
@@ -45,34 +44,6 @@ fn delivery(frame: u32, receiver: u32, sender: u32, tick: i64) -> Event
     }
 }
 
-// The event of a moment of a replica's own.
-fn moment_event(timing: &Timing, frame: u32, input: &FrameIn, moment: Moment, replica: u32) -> Event
-    requires of { IsTimingWith timing.now input.now }
-    requires frame { frame ≤ MAX_FRAMES }
-    requires replica { replica < input.now.replicas }
-    ensures { (plan : PlanParts) → plan.timing ≡ timing.now
-        → result ≡ opening.moment_event plan frame input.now moment replica }
-{
-    match moment {
-        Moment::Begins => {
-            let tick = begin_of(timing, frame, input, replica);
-            own_event(EventKind::Begin, frame, replica, tick)
-        }
-        Moment::Sends => {
-            let tick = send_of(timing, frame, input, replica);
-            own_event(EventKind::Send, frame, replica, tick)
-        }
-        Moment::Votes => {
-            let tick = vote_of(timing, frame, input, replica);
-            own_event(EventKind::Vote, frame, replica, tick)
-        }
-        Moment::Syncs => {
-            let tick = sync_of(timing, frame, input, replica);
-            own_event(EventKind::Sync, frame, replica, tick)
-        }
-    }
-}
-
 // Adds a moment of a replica's own, where it is up.
 fn add_moment_at(
     agenda: &mut Agenda,
@@ -92,7 +63,34 @@ fn add_moment_at(
     ensures room { AddsUpTo 1 agenda.old agenda.new }
 {
     if !input.down(replica) {
-        agenda.add(moment_event(timing, frame, input, moment, replica));
+        let tick = tick_of(timing, frame, input, moment, replica);
+        agenda.add(own_event(kind_of(moment), frame, replica, tick));
+    }
+}
+
+// Adds a moment of a replica's own, with the tick at which all come to it where there is one.
+fn put_moment(
+    agenda: &mut Agenda,
+    timing: &Timing,
+    frame: u32,
+    input: &FrameIn,
+    moment: Moment,
+    together: Option<i64>,
+    replica: u32,
+)
+    requires of { IsTimingWith timing.now input.now }
+    requires frame { frame < MAX_FRAMES }
+    requires together { IfSome together (ComeTogether timing.now frame input.now moment) }
+    requires replica { replica < input.now.replicas }
+    requires room { 1 ≤ agenda.old.spare }
+    ensures events { (plan : PlanParts) → plan.timing ≡ timing.now
+        → plan.replicas ≡ input.now.replicas → agenda.new.left
+        ≡ in_turn_from agenda.old.left (moment_at plan frame input.now moment replica) }
+    ensures room { AddsUpTo 1 agenda.old agenda.new }
+{
+    match together {
+        Some(tick) => agenda.add(own_event(kind_of(moment), frame, replica, tick)),
+        None => add_moment_at(agenda, timing, frame, input, moment, replica),
     }
 }
 
@@ -113,8 +111,9 @@ fn add_moment(
         ≡ in_turn_from agenda.old.left (moment_events plan frame input.now moment) }
     ensures room { AddsUpTo setting.now.replicas agenda.old agenda.new }
 {
+    let together = quiet_tick(timing, frame, input, moment);
     for replica in 0..setting.replicas() {
-        add_moment_at(agenda, timing, frame, input, moment, replica);
+        put_moment(agenda, timing, frame, input, moment, together, replica);
     }
 }
 
@@ -124,11 +123,13 @@ fn add_fresh(
     setting: &Setting,
     frame: u32,
     input: &FrameIn,
+    ticks: &BlockTicks,
     receiver: u32,
     sender: u32,
 )
     requires of { HasPlanWith setting.now input.now }
     requires frame { frame < MAX_FRAMES }
+    requires ticks { AreTicksOf setting.now frame input.now ticks.now }
     requires receiver { receiver < setting.now.replicas }
     requires sender { sender < setting.now.replicas }
     requires room { 1 ≤ agenda.old.spare }
@@ -138,9 +139,8 @@ fn add_fresh(
         (fresh_letter plan state input.now receiver sender)) }
     ensures room { AddsUpTo 1 agenda.old agenda.new }
 {
-    if goes_out(input, sender, receiver) {
-        let tick = arrival_of(setting, frame, input, sender, receiver);
-        if tick < end_tick(setting, frame) {
+    if let Some(tick) = arrival_in(setting, frame, input, ticks, sender, receiver) {
+        if tick < ticks.end {
             agenda.add(delivery(frame, receiver, sender, tick));
         }
     }
@@ -164,12 +164,14 @@ fn add_from(
     setting: &Setting,
     frame: u32,
     input: &FrameIn,
+    ticks: &BlockTicks,
     late: &[Vec<Post>],
     receiver: u32,
     sender: u32,
 )
     requires of { HasPlanWith setting.now input.now }
     requires frame { frame < MAX_FRAMES }
+    requires ticks { AreTicksOf setting.now frame input.now ticks.now }
     requires late { ArePostRows setting.now late.now }
     requires receiver { receiver < setting.now.replicas }
     requires sender { sender < setting.now.replicas }
@@ -179,7 +181,7 @@ fn add_from(
         ≡ in_turn_from agenda.old.left (events_from plan state input.now receiver sender) }
     ensures room { AddsUpTo 2 agenda.old agenda.new }
 {
-    add_fresh(agenda, setting, frame, input, receiver, sender);
+    add_fresh(agenda, setting, frame, input, ticks, receiver, sender);
     let place = &late[receiver as usize][sender as usize];
     add_late(agenda, frame, receiver, sender, place);
 }
@@ -190,11 +192,13 @@ fn add_to(
     setting: &Setting,
     frame: u32,
     input: &FrameIn,
+    ticks: &BlockTicks,
     late: &[Vec<Post>],
     receiver: u32,
 )
     requires of { HasPlanWith setting.now input.now }
     requires frame { frame < MAX_FRAMES }
+    requires ticks { AreTicksOf setting.now frame input.now ticks.now }
     requires late { ArePostRows setting.now late.now }
     requires receiver { receiver < setting.now.replicas }
     requires room { 2 * setting.now.replicas ≤ agenda.old.spare }
@@ -204,7 +208,7 @@ fn add_to(
     ensures room { AddsUpTo (2 * setting.now.replicas) agenda.old agenda.new }
 {
     for sender in 0..setting.replicas() {
-        add_from(agenda, setting, frame, input, late, receiver, sender);
+        add_from(agenda, setting, frame, input, ticks, late, receiver, sender);
     }
 }
 
@@ -214,10 +218,12 @@ fn add_deliveries(
     setting: &Setting,
     frame: u32,
     input: &FrameIn,
+    ticks: &BlockTicks,
     late: &[Vec<Post>],
 )
     requires of { HasPlanWith setting.now input.now }
     requires frame { frame < MAX_FRAMES }
+    requires ticks { AreTicksOf setting.now frame input.now ticks.now }
     requires late { ArePostRows setting.now late.now }
     requires room { 2 * setting.now.replicas * setting.now.replicas ≤ agenda.old.spare }
     ensures events { (plan : PlanParts) (state : SystemState) → IsSettingOf plan setting.now
@@ -227,7 +233,7 @@ fn add_deliveries(
         agenda.old agenda.new }
 {
     for receiver in 0..setting.replicas() {
-        add_to(agenda, setting, frame, input, late, receiver);
+        add_to(agenda, setting, frame, input, ticks, late, receiver);
     }
 }
 
@@ -252,9 +258,10 @@ pub(crate) fn add_all(
     ensures room { AddsUpTo ((4 + 2 * setting.now.replicas) * setting.now.replicas)
         agenda.old agenda.new }
 {
+    let ticks = block_ticks(setting, frame, input);
     add_moment(agenda, setting, timing, frame, input, Moment::Begins);
     add_moment(agenda, setting, timing, frame, input, Moment::Sends);
-    add_deliveries(agenda, setting, frame, input, late);
+    add_deliveries(agenda, setting, frame, input, &ticks, late);
     add_moment(agenda, setting, timing, frame, input, Moment::Votes);
     add_moment(agenda, setting, timing, frame, input, Moment::Syncs);
 }

@@ -8,7 +8,7 @@ use Rattle.clocked_layer.proofs.opening.add_moment.Goals as goal
 pub loop-replica-preserved : goal.loop-replica-preserved
 loop-replica-preserved c =
     let k = c.loop-replica.invariant in
-    let e = c.add_moment_at.ensures in
+    let e = c.put_moment.ensures in
     record {
       room = record {
         few = omega (arith, k.room.few, e.room.few);
@@ -16,8 +16,10 @@ loop-replica-preserved c =
       };
       added = λ plan s.
           added_more (moment_at plan c.args.frame c.args.input.now c.args.moment) _
-          c.loop-replica.agenda.left c.add_moment_at.new.agenda.left c.loop-replica.replica
-          (k.added plan s) (e.events plan (sym s.timing ∙ sym c.requires.timing) (same_rows _ _ c.requires.of plan s));
+          c.loop-replica.agenda.left c.put_moment.new.agenda.left c.loop-replica.replica
+          (k.added plan s)
+          (e.events plan (sym s.timing ∙ sym c.requires.timing)
+          (same_rows _ _ c.requires.of plan s));
     }
 
 pub returns-clause-events : goal.returns-clause-events
