@@ -2,10 +2,10 @@
 use Rattle.std.proofs.lemmas.List.{length-append}
 use Rattle.std.proofs.lemmas.List.Edits.{length-remove}
 use Rattle.std.proofs.lemmas.Option.{get_or_from_slice_get}
-use Rattle.std.proofs.Common.{inl, inr, ◌≡◌, ℕ, ◌+◌, ◌<◌, ◌≤◌, List, [], ◌∷◌, ◌++◌, Some, length, slice_get, slice_index_or, vec_capacity, vec_len, sym, ap, subst, ◌∙◌, arith}
+use Rattle.std.proofs.Common.{inl, inr, ◌≡◌, ℕ, ◌+◌, ◌<◌, ◌≤◌, List, [], ◌∷◌, ◌++◌, None, Some, length, slice_get, slice_index_or, vec_capacity, vec_len, sym, ap, subst, ◌∙◌, arith}
 use Rattle.clocked_layer.proofs.Interleavings.{next_ready}
 use Rattle.clocked_layer.proofs.MachineLemmas.{shows_there, unread_rows, waits_there}
-use Rattle.clocked_layer.proofs.Ways.{ends_where, goes_on_by}
+use Rattle.clocked_layer.proofs.Ways.{ends_where, goes_on_by, late_gone}
 use Rattle.clocked_layer.specs.Block.{Block, block_after_event, closed_state}
 use Rattle.clocked_layer.specs.Clocked.{IsAfterLog, IsAtRest, IsRunning}
 use Rattle.clocked_layer.specs.Machine.{ShowsBlock}
@@ -90,7 +90,8 @@ module _ (plan : PlanParts) (rows : FrameRows) (log : List Event) (block : Block
         is = ap (λ (b : Block). block_after_event plan rows b event) after.is ∙ sym on.block;
       }
 
-  -- where none is left, each replica is at its last stage, and the next frame may come
+  -- where none is left, each replica is at its last stage, all late letters have come, and the
+  -- next frame may
   module _ (none : block.left ≡ []) where
     pub last_stages : (replica : ℕ)
         → (block.seats replica).stage ≡ last_stage (is_up plan rows replica)
@@ -98,6 +99,12 @@ module _ (plan : PlanParts) (rows : FrameRows) (log : List Event) (block : Block
         ap (λ (b : Block). (b.seats replica).stage) after.is
         ∙ (ends_where plan after.state rows after.mail log after.way
         (ap (λ (b : Block). b.left) (sym after.is) ∙ none)).stages replica
+
+    pub none_late : block.late ≡ (λ receiver sender. None)
+    none_late =
+        ap (λ (b : Block). b.late) after.is
+        ∙ late_gone plan after.state rows after.mail log after.way
+        (ap (λ (b : Block). b.left) (sym after.is) ∙ none)
 
     pub ready_next : IsReady plan (closed_state plan rows block)
     ready_next =

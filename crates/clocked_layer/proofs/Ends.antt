@@ -8,7 +8,7 @@ use Rattle.clock_model.specs.Order.{block_begin}
 use Rattle.clocked_layer.proofs.Before.{Before, le_no, le_yes, up_of}
 use Rattle.clocked_layer.proofs.FrameFacts.{held_after, next_is, sender_up, stays_is, stays_none}
 use Rattle.clocked_layer.proofs.Kept.{IsAll, IsKept, stage_by}
-use Rattle.clocked_layer.proofs.Moves.{Arrives, Begins, Marks, Move, Of, Sends, Syncs, Votes, arrives, arrives_late, begins, sends, syncs, votes}
+use Rattle.clocked_layer.proofs.Moves.{Arrives, Arrives_late, Begins, Marks, Move, Of, Sends, Syncs, Votes, arrives, arrives_late, begins, sends, syncs, votes}
 use Rattle.clocked_layer.proofs.TableLemmas.{cond_not, cond_twice, none_both, tests_agree}
 use Rattle.clocked_layer.specs.Block.{Block, closed_state}
 use Rattle.clocked_layer.specs.Way.{StageFor}
@@ -147,3 +147,16 @@ module _ (plan : PlanParts) (rows : FrameRows) (state : SystemState) where
       go : (t : Bool) → stage_by t t t t ≡ cond t Finished Waiting
       go true = refl
       go false = refl
+
+  -- and no letter of the frame before is on its way
+  pub all_came : (marks : Marks) (block : Block) → IsAll plan rows state marks
+      → IsKept plan rows state marks block → block.late ≡ (λ receiver sender. None)
+  all_came marks block all kept =
+      fun_ext (λ q. fun_ext (λ p. kept.late q p ∙ gone q p (state.letters q p) refl))
+    where
+      gone : (q p : ℕ) (place : Option Letter) → state.letters q p ≡ place
+          → cond (marks.came_late q p) None place ≡ None
+      gone q p None is = none_both (marks.came_late q p) true
+      gone q p (Some letter) is =
+          ap (λ t. cond t None (Some letter))
+          (all.all (Arrives_late q p) _ (arrives_late q p letter is))

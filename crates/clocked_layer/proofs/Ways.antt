@@ -3,10 +3,10 @@ use Rattle.std.specs.List.{AllByRecursion, Contains}
 use Rattle.std.proofs.lemmas.Bool.{and_parts}
 use Rattle.std.proofs.lemmas.List.Sorted.{All-permutation, IsPermutation-sym, IsPermutation-trans, IsPermutation-append_right}
 use Rattle.std.proofs.lemmas.List.Elements.{recursion_from_All, All-from_recursion, All-contains}
-use Rattle.std.proofs.Common.{◌≡◌, ℕ, ◌<◌, true, List, [], ◌∷◌, ◌++◌, Option, IsPermutation, refl, sym, ap, ◌∙◌, subst, arith, ltb-true, append-nil, append_assoc}
+use Rattle.std.proofs.Common.{◌≡◌, ℕ, ◌<◌, true, List, [], ◌∷◌, ◌++◌, Option, None, IsPermutation, refl, sym, ap, ◌∙◌, subst, arith, ltb-true, append-nil, append_assoc}
 use Rattle.clocked_layer.proofs.Before.{before}
 use Rattle.clocked_layer.proofs.BlockEvents.{IsOneOf, all_events}
-use Rattle.clocked_layer.proofs.Ends.{at_end, last_stage, stage_at}
+use Rattle.clocked_layer.proofs.Ends.{all_came, at_end, last_stage, stage_at}
 use Rattle.clocked_layer.proofs.FrameFacts.{letter_range}
 use Rattle.clocked_layer.proofs.Kept.{IsAll, IsKept, at_opening}
 use Rattle.clocked_layer.proofs.LegalLogs.{all_after, comes_by_itself, legal_run, still_rises}
@@ -192,19 +192,25 @@ module _ (plan : PlanParts) (state : SystemState) (rows : FrameRows)
             ≡ log ++ event ∷ without_event event (so_far log).left
         one_log = append_assoc log (event ∷ []) _ ∙ ap (λ x. log ++ event ∷ x) rest
 
-    pub ends_where : (so_far log).left ≡ [] → EndsAsNext plan state rows boxes log
-    ends_where none = record {
-      legal = legal;
-      stages = last_stage plan rows state w.0 (so_far log) w.1 w.2;
-      next = at_end plan rows state w.0 (so_far log) w.1 w.2;
-    }
-      where
-        legal : IsLegalLog plan state rows log
-        legal =
-            subst (IsLegalLog plan state rows) (ap (λ x. log ++ x) none ∙ append-nil log) way.legal
+    -- where none is left, all have happened
+    module _ (none : (so_far log).left ≡ []) where
+      all_legal : IsLegalLog plan state rows log
+      all_legal =
+          subst (IsLegalLog plan state rows) (ap (λ x. log ++ x) none ∙ append-nil log) way.legal
 
-        w : (last : Marks) × IsAll plan rows state last
-            × IsKept plan rows state last (so_far log)
-        w = run_kept plan rows state way.timely log no_marks (opened_block plan state rows boxes)
-            (legal_run plan rows state way.timely log legal) (nothing_past plan rows state)
-            (at_opening plan rows state boxes)
+      all_kept : (last : Marks) × IsAll plan rows state last
+          × IsKept plan rows state last (so_far log)
+      all_kept =
+          run_kept plan rows state way.timely log no_marks (opened_block plan state rows boxes)
+          (legal_run plan rows state way.timely log all_legal) (nothing_past plan rows state)
+          (at_opening plan rows state boxes)
+
+      pub ends_where : EndsAsNext plan state rows boxes log
+      ends_where = record {
+        legal = all_legal;
+        stages = last_stage plan rows state all_kept.0 (so_far log) all_kept.1 all_kept.2;
+        next = at_end plan rows state all_kept.0 (so_far log) all_kept.1 all_kept.2;
+      }
+
+      pub late_gone : (so_far log).late ≡ (λ receiver sender. None)
+      late_gone = all_came plan rows state all_kept.0 (so_far log) all_kept.1 all_kept.2

@@ -89,25 +89,3 @@ pub(crate) fn remove(setting: &Setting, letters: &mut Vec<Vec<Post>>, receiver: 
 {
     letters[receiver as usize][sender as usize].present = false;
 }
-
-// Takes all letters to one receiver away.
-fn clear_row(setting: &Setting, row: &mut Vec<Post>)
-    requires room { ArePosts setting.now row.old.items }
-    ensures none { letters_in row.new.items ≡ table setting.now.replicas (λ sender. None) }
-    ensures room { ArePosts setting.now row.new.items }
-{
-    for sender in 0..setting.replicas() {
-        row[sender as usize].present = false;
-    }
-}
-
-/// Takes all letters away. Takes no memory.
-pub(crate) fn clear(setting: &Setting, letters: &mut Vec<Vec<Post>>)
-    requires room { ArePostRows setting.now letters.old.items }
-    ensures none { post_at letters.new.items ≡ (λ receiver sender. None) }
-    ensures room { ArePostRows setting.now letters.new.items }
-{
-    for receiver in 0..setting.replicas() {
-        clear_row(setting, &mut letters[receiver as usize]);
-    }
-}

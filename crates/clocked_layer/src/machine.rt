@@ -21,7 +21,7 @@ ghost use Rattle.clocked_layer.specs.Machine.{IsMachineAt, ShowsBlock, ShowsSome
 ghost use Rattle.clocked_layer.specs.Stepped.{Mail, RestsAt, mail_of_block, no_mail};
 ghost use Rattle.clocked_layer.specs.Way.{StageFor};
 
-use crate::letters::{clear, post, remove};
+use crate::letters::{post, remove};
 use crate::opening::add_all;
 use event_queue::{Agenda, Event, EventKind};
 use frame_table::Table;
@@ -104,18 +104,18 @@ impl Machine {
         );
     }
 
-    /// Closes a block of which no event is left. What is still on its way is late from now on.
-    /// Takes no memory.
+    /// Closes a block of which no event is left, so that all letters of the frame before have come. What is
+    /// still on its way is late from now on. Takes no memory.
     pub(crate) fn finish(&mut self, input: &FrameIn)
         requires shows { ShowsSome self.old input.now }
         ensures { (plan : PlanParts) (block : Block) → ShowsBlock self.old plan input.now block
             → ((replica : ℕ)
             → (block.seats replica).stage ≡ last_stage (is_up plan input.now replica))
+            → block.late ≡ (λ receiver sender. None)
             → IsMachineAt self.new plan (closed_state plan input.now block) (mail_of_block block) }
     {
         finish_all(&mut self.phases, input);
         mem::swap(&mut self.fresh, &mut self.late);
-        clear(&self.setting, &mut self.fresh);
         self.done += 1;
     }
 

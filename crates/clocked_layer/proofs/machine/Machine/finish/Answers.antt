@@ -8,7 +8,7 @@ use Rattle.clocked_layer.proofs.machine.Machine.finish.Goals as goal
 
 pub returns : goal.returns
 unfolding end_of_frame
-returns c plan block shows stages =
+returns c plan block shows stages none =
     let of = shows.of_plan in
     record {
       of_plan = record {
@@ -18,7 +18,10 @@ returns c plan block shows stages =
         code = of.code;
         phases = c.finish_all.ensures.size ∙ of.phases;
         own = of.own;
-        fresh = c.clear.ensures.room;
+        fresh = subst
+            (λ (rows : Vec (Vec Post Global) Global).
+            ArePostRows c.args.self.now.setting rows.items)
+            (sym c.swap.ensures.x_after) of.late;
         late = subst
             (λ (rows : Vec (Vec Post Global) Global).
             ArePostRows c.args.self.now.setting rows.items)
@@ -27,7 +30,8 @@ returns c plan block shows stages =
       done = omega (arith, shows.done);
       phases = c.finish_all.ensures.rest plan block.seats block.done block.fresh shows.seats
           shows.frame stages;
-      fresh = c.clear.ensures.none;
+      fresh = ap (λ (rows : Vec (Vec Post Global) Global). post_at rows.items) c.swap.ensures.x_after
+          ∙ shows.late ∙ none;
       late = ap (λ (rows : Vec (Vec Post Global) Global). post_at rows.items) c.swap.ensures.y_after
           ∙ shows.fresh;
     }
