@@ -44,11 +44,11 @@ lets_fit code at d height lets below =
 pub room_later :
     (sensors cells : List ℤ) (code : List Instruction) (at : ℕ) (d : Instruction) (now later : State) → at < length code →
     later ≡ step sensors cells (get_or code at d) now →
-    room_from (drop (at + 1) code) (length later.stack) (length later.lets) ≤ room_from (drop at code) (length now.stack) (length now.lets)
+    room_from (drop (at + 1) code) (length later.below) (length later.lets) ≤ room_from (drop at code) (length now.below) (length now.lets)
 room_later sensors cells code at d now later below is =
-    let height : length later.stack ≡ height_after (get_or code at d) (length now.stack) = ap (λ s. length s.stack) is ∙ height_step sensors cells (get_or code at d) now in
+    let height : length later.below ≡ height_after (get_or code at d) (length now.below) = ap (λ s. length s.below) is ∙ height_step sensors cells (get_or code at d) now in
     let lets : length later.lets ≡ lets_after (get_or code at d) (length now.lets) = ap (λ s. length s.lets) is ∙ lets_step sensors cells (get_or code at d) now in
-    rw (height, lets) (room_on code at d (length now.stack) (length now.lets) below)
+    rw (height, lets) (room_on code at d (length now.below) (length now.lets) below)
 
 -- the results that are left
 pub count_on : (code : List Instruction) (at : ℕ) (d : Instruction) → at < length code →

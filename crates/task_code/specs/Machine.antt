@@ -8,49 +8,56 @@ use Rattle.task_code.specs.Buffer.{Buffer}
 use Rattle.task_code.specs.declared.instruction.Instruction.{Instruction}
 use Rattle.task_code.specs.declared.instruction.Instruction.TheVariants.{Number, Sensor, Cell, Let, Neg, Not, Abs, Two, WithNumber, WithSensor, WithCell, WithLet, Clamp, If, Keep, Give}
 
--- the stack, its top first, the values of the lets, and the results so far
+-- the top of the stack, what stands below it, the values of the lets, and the results so far
 pub record State : Type 0 where
-  pub stack : List ℤ
+  pub top : ℤ
+  pub below : List ℤ
   pub lets : List ℤ
   pub results : List ℤ
 
--- the state with these buffers
-abbrev pub state_of : Buffer → Buffer → List ℤ → State
-state_of stack lets results = record { stack = stack.numbers; lets = lets.numbers; results = results }
+-- the state with this top and these buffers
+abbrev pub state_of : ℤ → Buffer → Buffer → List ℤ → State
+state_of top below lets results = record { top = top; below = below.numbers; lets = lets.numbers; results = results }
 
 -- the state before the first instruction
 abbrev pub start : State
-start = record { stack = []; lets = []; results = [] }
+start = record { top = pos 0; below = []; lets = []; results = [] }
 
--- the top, which is 0 where nothing stands on the stack
+-- the first, which is 0 where there is none
 abbrev pub top_of : List ℤ → ℤ
 top_of [] = pos 0
 top_of (x ∷ xs) = x
 
--- what stands below the top
+-- what stands below the first
 abbrev pub rest_of : List ℤ → List ℤ
 rest_of [] = []
 rest_of (x ∷ xs) = xs
 
 abbrev pub push : ℤ → State → State
-push x s = record s { stack = x ∷ s.stack }
+push x s = record s { top = x; below = s.top ∷ s.below }
+
+-- the top is taken away
+abbrev pub pop : State → State
+pop s = record s { top = top_of s.below; below = rest_of s.below }
 
 -- a function of the top in its place
-abbrev pub topmost : (ℤ → ℤ) → List ℤ → List ℤ
-topmost f numbers = f (top_of numbers) ∷ rest_of numbers
+abbrev pub topmost : (ℤ → ℤ) → State → State
+topmost f s = record s { top = f s.top }
 
 -- a function of the two topmost numbers in their place; its last argument is the top
-abbrev pub two_topmost : (ℤ → ℤ → ℤ) → List ℤ → List ℤ
-two_topmost f numbers = f (top_of (rest_of numbers)) (top_of numbers) ∷ rest_of (rest_of numbers)
+abbrev pub two_topmost : (ℤ → ℤ → ℤ) → State → State
+two_topmost f s = record s { top = f (top_of s.below) s.top; below = rest_of s.below }
 
 -- the same of three
-abbrev pub three_topmost : (ℤ → ℤ → ℤ → ℤ) → List ℤ → List ℤ
-three_topmost f numbers =
-    f (top_of (rest_of (rest_of numbers))) (top_of (rest_of numbers)) (top_of numbers) ∷ rest_of (rest_of (rest_of numbers))
+abbrev pub three_topmost : (ℤ → ℤ → ℤ → ℤ) → State → State
+three_topmost f s = record s {
+  top = f (top_of (rest_of s.below)) (top_of s.below) s.top;
+  below = rest_of (rest_of s.below);
+}
 
 -- an operator of the top and this right operand
 abbrev pub with_right : Op → ℤ → State → State
-with_right op b s = record s { stack = topmost (λ a. op_result op a b) s.stack }
+with_right op b s = topmost (λ a. op_result op a b) s
 
 -- what one instruction does
 abbrev pub step : List ℤ → List ℤ → Instruction → State → State
@@ -58,18 +65,18 @@ step sensors cells (Number n) s = push n s
 step sensors cells (Sensor i) s = push (slice_index_or sensors i (pos 0)) s
 step sensors cells (Cell i) s = push (slice_index_or cells i (pos 0)) s
 step sensors cells (Let i) s = push (slice_index_or s.lets i (pos 0)) s
-step sensors cells Neg s = record s { stack = topmost negation_of s.stack }
-step sensors cells Not s = record s { stack = topmost (λ x. truth (not (is_true x))) s.stack }
-step sensors cells Abs s = record s { stack = topmost magnitude_of s.stack }
-step sensors cells (Two op) s = record s { stack = two_topmost (op_result op) s.stack }
+step sensors cells Neg s = topmost negation_of s
+step sensors cells Not s = topmost (λ x. truth (not (is_true x))) s
+step sensors cells Abs s = topmost magnitude_of s
+step sensors cells (Two op) s = two_topmost (op_result op) s
 step sensors cells (WithNumber op n) s = with_right op n s
 step sensors cells (WithSensor op i) s = with_right op (slice_index_or sensors i (pos 0)) s
 step sensors cells (WithCell op i) s = with_right op (slice_index_or cells i (pos 0)) s
 step sensors cells (WithLet op i) s = with_right op (slice_index_or s.lets i (pos 0)) s
-step sensors cells Clamp s = record s { stack = three_topmost (λ x low high. int_max low (int_min x high)) s.stack }
-step sensors cells If s = record s { stack = three_topmost (λ test a b. if is_true test then a else b) s.stack }
-step sensors cells Keep s = record s { stack = rest_of s.stack; lets = s.lets ++ top_of s.stack ∷ [] }
-step sensors cells Give s = record s { stack = rest_of s.stack; results = s.results ++ top_of s.stack ∷ [] }
+step sensors cells Clamp s = three_topmost (λ x low high. int_max low (int_min x high)) s
+step sensors cells If s = three_topmost (λ test a b. if is_true test then a else b) s
+step sensors cells Keep s = pop (record s { lets = s.lets ++ s.top ∷ [] })
+step sensors cells Give s = pop (record s { results = s.results ++ s.top ∷ [] })
 
 -- what instructions do one after the other
 abbrev pub run : List ℤ → List ℤ → List Instruction → State → State
@@ -80,22 +87,22 @@ run sensors cells (instruction ∷ code) s = run sensors cells code (step sensor
 abbrev pub results : List Instruction → List ℤ → List ℤ → List ℤ
 results code sensors cells = (run sensors cells code start).results
 
--- how many numbers stand on the stack after an instruction, where so many stood before
+-- how many numbers stand below the top after an instruction, where so many stood before
 abbrev pub height_after : Instruction → ℕ → ℕ
 height_after (Number n) height = height + 1
 height_after (Sensor i) height = height + 1
 height_after (Cell i) height = height + 1
 height_after (Let i) height = height + 1
-height_after Neg height = height - 1 + 1
-height_after Not height = height - 1 + 1
-height_after Abs height = height - 1 + 1
-height_after (Two op) height = height - 1 - 1 + 1
-height_after (WithNumber op n) height = height - 1 + 1
-height_after (WithSensor op i) height = height - 1 + 1
-height_after (WithCell op i) height = height - 1 + 1
-height_after (WithLet op i) height = height - 1 + 1
-height_after Clamp height = height - 1 - 1 - 1 + 1
-height_after If height = height - 1 - 1 - 1 + 1
+height_after Neg height = height
+height_after Not height = height
+height_after Abs height = height
+height_after (Two op) height = height - 1
+height_after (WithNumber op n) height = height
+height_after (WithSensor op i) height = height
+height_after (WithCell op i) height = height
+height_after (WithLet op i) height = height
+height_after Clamp height = height - 1 - 1
+height_after If height = height - 1 - 1
 height_after Keep height = height - 1
 height_after Give height = height - 1
 
@@ -104,7 +111,7 @@ abbrev pub lets_after : Instruction → ℕ → ℕ
 lets_after Keep lets = lets + 1
 lets_after _ lets = lets
 
--- the most that stand on the stack, or the most lets, along a run from so many
+-- the most that stand below the top, or the most lets, along a run from so many
 abbrev pub room_from : List Instruction → ℕ → ℕ → ℕ
 room_from [] height lets = max height lets
 room_from (instruction ∷ code) height lets =

@@ -80,7 +80,7 @@ fn room_of(code: &[Instruction]) -> u32
     room.max(height.max(lets))
 }
 
-// How many numbers stand on the stack after an instruction, where so many stood before.
+// How many numbers stand below the top after an instruction, where so many stood before.
 fn height_after(instruction: Instruction, height: u32) -> u32
     requires { height + 1 < 2 ^ 32 }
     ensures height { result ≡ machine.height_after instruction height }
@@ -97,10 +97,9 @@ fn height_after(instruction: Instruction, height: u32) -> u32
         | Instruction::WithNumber(_, _)
         | Instruction::WithSensor(_, _)
         | Instruction::WithCell(_, _)
-        | Instruction::WithLet(_, _) => height.saturating_sub(1) + 1,
-        Instruction::Two(_) => height.saturating_sub(2) + 1,
-        Instruction::Clamp | Instruction::If => height.saturating_sub(3) + 1,
-        Instruction::Keep | Instruction::Give => height.saturating_sub(1),
+        | Instruction::WithLet(_, _) => height,
+        Instruction::Two(_) | Instruction::Keep | Instruction::Give => height.saturating_sub(1),
+        Instruction::Clamp | Instruction::If => height.saturating_sub(2),
     }
 }
 

@@ -1,6 +1,6 @@
 //! The stack machine.
 //! This project's own.
-ghost use Rattle.std.specs.Prelude.{◌≡◌, ◌+◌, ◌-◌, ◌≤◌, ◌∷◌, length, take, not, if◌then◌else◌, IfOk, [], MatchOption};
+ghost use Rattle.std.specs.Prelude.{◌≡◌, ◌+◌, ◌≤◌, ◌<◌, ◌∷◌, length, take, not, if◌then◌else◌, IfOk, [], MatchOption};
 ghost use Rattle.std.specs.Int.{int_min, int_max};
 ghost use Rattle.rcp_model.specs.Expr as expr;
 ghost use Rattle.task_code.specs.Machine as machine;
@@ -11,15 +11,21 @@ use crate::stack::Stack;
 use crate::steps::Steps;
 use crate::value::{is_true, op_result, truth, value_at};
 use rcp_base::{Memory, abs, neg};
-use rcp_model::Op;
 use std::alloc::Global;
 use std::sync::ledger::Ledger;
 
-/// What a run holds beside its results.
+/// What a run holds in memory beside its results: the stack below its top, and the lets.
 #[derive(Debug, Drop)]
 pub struct Machine {
     pub stack: Stack,
     pub lets: Row,
+}
+
+/// What a run holds at hand: the top of its stack, and how many results it has given.
+#[derive(Clone, Copy, Debug)]
+pub struct Progress {
+    pub top: i64,
+    pub given: usize,
 }
 
 impl Machine {
@@ -53,14 +59,15 @@ impl Machine {
     {
         self.stack.clear();
         self.lets.clear();
-        let mut given = 0;
+        let mut at = Progress { top: 0, given: 0 };
         for instruction in code {
             steps.tick();
-            given = self.act(*instruction, sensors, cells, out, given);
+            at = self.act(*instruction, sensors, cells, out, at);
         }
     }
 
-    /// Does one instruction, where so many results are given, and tells how many are given then.
+    /// Does one instruction, and tells what is at hand then.
+    #[inline(always)]
     #[tactic(auto, using(crate::proofs::StackLemmas::length_rest))]
     pub fn act(
         &mut self,
@@ -68,112 +75,88 @@ impl Machine {
         sensors: &[i64],
         cells: &[i64],
         out: &mut [i64],
-        given: usize,
-    ) -> usize
+        at: Progress,
+    ) -> Progress
         requires stack { machine.height_after instruction (length self.old.stack.numbers)
             ≤ self.old.stack.room }
         requires lets { machine.lets_after instruction (length self.old.lets.numbers)
             ≤ self.old.lets.room }
-        requires results { given + machine.gives instruction ≤ length out.old }
-        ensures step { machine.state_of self.new.stack self.new.lets (take result out.new)
-            ≡ machine.step sensors.now cells.now instruction
-            (machine.state_of self.old.stack self.old.lets (take given out.old)) }
-        ensures given { result ≡ given + machine.gives instruction }
+        requires results { at.given + machine.gives instruction ≤ length out.old }
+        ensures step { machine.state_of
+            result.top self.new.stack self.new.lets (take result.given out.new)
+            ≡ machine.step sensors.now cells.now instruction (machine.state_of
+            at.top self.old.stack self.old.lets (take at.given out.old)) }
+        ensures given { result.given ≡ at.given + machine.gives instruction }
         ensures stack_room { self.new.stack.room ≡ self.old.stack.room }
         ensures lets_room { self.new.lets.room ≡ self.old.lets.room }
     {
-        match instruction {
-            Instruction::Number(n) => self.stack.push(n),
-            Instruction::Sensor(i) => self.stack.push(value_at(sensors, i)),
-            Instruction::Cell(i) => self.stack.push(value_at(cells, i)),
-            Instruction::Let(i) => self.stack.push(value_at(self.lets.as_slice(), i)),
-            Instruction::Neg => {
-                let x = self.stack.pop();
-                self.stack.push(neg(x));
-            }
-            Instruction::Not => {
-                let x = self.stack.pop();
-                self.stack.push(truth(!is_true(x)));
-            }
-            Instruction::Abs => {
-                let x = self.stack.pop();
-                self.stack.push(abs(x));
-            }
-            Instruction::Two(op) => combine(&mut self.stack, op),
-            Instruction::WithNumber(op, n) => with_right(&mut self.stack, op, n),
-            Instruction::WithSensor(op, i) => {
-                with_right(&mut self.stack, op, value_at(sensors, i));
-            }
-            Instruction::WithCell(op, i) => with_right(&mut self.stack, op, value_at(cells, i)),
-            Instruction::WithLet(op, i) => {
-                let b = value_at(self.lets.as_slice(), i);
-                with_right(&mut self.stack, op, b);
-            }
-            Instruction::Clamp => clamp(&mut self.stack),
-            Instruction::If => choose(&mut self.stack),
+        let Progress { top, given } = at;
+        let top = match instruction {
+            Instruction::Number(n) => push(&mut self.stack, top, n),
+            Instruction::Sensor(i) => push(&mut self.stack, top, value_at(sensors, i)),
+            Instruction::Cell(i) => push(&mut self.stack, top, value_at(cells, i)),
+            Instruction::Let(i) => push(&mut self.stack, top, value_at(self.lets.as_slice(), i)),
+            Instruction::Neg => neg(top),
+            Instruction::Not => truth(!is_true(top)),
+            Instruction::Abs => abs(top),
+            Instruction::Two(op) => op_result(op, self.stack.pop(), top),
+            Instruction::WithNumber(op, n) => op_result(op, top, n),
+            Instruction::WithSensor(op, i) => op_result(op, top, value_at(sensors, i)),
+            Instruction::WithCell(op, i) => op_result(op, top, value_at(cells, i)),
+            Instruction::WithLet(op, i) => op_result(op, top, value_at(self.lets.as_slice(), i)),
+            Instruction::Clamp => clamp(&mut self.stack, top),
+            Instruction::If => choose(&mut self.stack, top),
             Instruction::Keep => {
-                let x = self.stack.pop();
-                self.lets.push(x);
+                self.lets.push(top);
+                self.stack.pop()
             }
             Instruction::Give => {
-                out[given] = self.stack.pop();
-                return given + 1;
+                out[given] = top;
+                return Progress {
+                    top: self.stack.pop(),
+                    given: given + 1,
+                };
             }
-        }
-        given
+        };
+        Progress { top, given }
     }
 }
 
-// Puts the operator's result in the place of the two topmost numbers.
-#[tactic(auto, using(crate::proofs::StackLemmas::length_rest))]
-fn combine(stack: &mut Stack, op: Op)
-    requires { length stack.old.numbers - 1 - 1 + 1 ≤ stack.old.room }
-    ensures { stack.new ≡ record stack.old {
-      numbers = machine.two_topmost (expr.op_result op) stack.old.numbers;
-    } }
+// Puts the top so far on what stands below it, and gives the new one.
+#[inline(always)]
+fn push(below: &mut Stack, top: i64, x: i64) -> i64
+    requires { length below.old.numbers < below.old.room }
+    ensures pushed { below.new ≡ record below.old { numbers = top ∷ below.old.numbers } }
+    ensures top { result ≡ x }
 {
-    let b = stack.pop();
-    with_right(stack, op, b);
+    below.push(top);
+    x
 }
 
-// Puts the operator's result, of the topmost number and this one, in the place of the topmost.
-#[tactic(auto, using(crate::proofs::StackLemmas::length_rest))]
-fn with_right(stack: &mut Stack, op: Op, b: i64)
-    requires { length stack.old.numbers - 1 + 1 ≤ stack.old.room }
-    ensures { stack.new ≡ record stack.old {
-      numbers = machine.topmost (λ a. expr.op_result op a b) stack.old.numbers;
+// The number between its least and its greatest, of the three topmost.
+#[inline(always)]
+fn clamp(below: &mut Stack, high: i64) -> i64
+    ensures value { result ≡ int_max (machine.top_of below.old.numbers)
+        (int_min (machine.top_of (machine.rest_of below.old.numbers)) high) }
+    ensures rest { below.new ≡ record below.old {
+      numbers = machine.rest_of (machine.rest_of below.old.numbers);
     } }
 {
-    let a = stack.pop();
-    stack.push(op_result(op, a, b));
+    let low = below.pop();
+    let x = below.pop();
+    low.max(x.min(high))
 }
 
-// Puts the value between its least and its greatest in the place of the three topmost numbers.
-#[tactic(auto, using(crate::proofs::StackLemmas::length_rest))]
-fn clamp(stack: &mut Stack)
-    requires { length stack.old.numbers - 1 - 1 - 1 + 1 ≤ stack.old.room }
-    ensures { stack.new ≡ record stack.old {
-      numbers = machine.three_topmost
-          (λ x low high. int_max low (int_min x high)) stack.old.numbers;
+// The chosen number of the three topmost.
+#[inline(always)]
+fn choose(below: &mut Stack, b: i64) -> i64
+    ensures value { result ≡ if expr.is_true (machine.top_of (machine.rest_of below.old.numbers))
+        then machine.top_of below.old.numbers else b }
+    ensures rest { below.new ≡ record below.old {
+      numbers = machine.rest_of (machine.rest_of below.old.numbers);
     } }
 {
-    let high = stack.pop();
-    let low = stack.pop();
-    let x = stack.pop();
-    stack.push(low.max(x.min(high)));
-}
-
-// Puts the chosen value in the place of the three topmost numbers.
-#[tactic(auto, using(crate::proofs::StackLemmas::length_rest))]
-fn choose(stack: &mut Stack)
-    requires { length stack.old.numbers - 1 - 1 - 1 + 1 ≤ stack.old.room }
-    ensures { stack.new ≡ record stack.old {
-      numbers = machine.three_topmost
-          (λ test a b. if expr.is_true test then a else b) stack.old.numbers;
-    } }
-{
-    let b = stack.pop();
-    let a = stack.pop();
-    let test = stack.pop();
-    stack.push(if is_true(test) { a } else { b });
+    let a = below.pop();
+    let test = below.pop();
+    if is_true(test) { a } else { b }
 }

@@ -7,24 +7,28 @@ use rcp_base::{add, div, mul, rem, sub};
 use rcp_model::Op;
 
 /// The value at a number, which is 0 where the list has none.
+#[inline(always)]
 pub fn value_at(values: &[i64], i: u16) -> i64
     ensures { result ≡ slice_index_or values.now i (pos 0) }
 {
     values.get(i as usize).copied().unwrap_or(0)
 }
 
+#[inline(always)]
 pub fn is_true(x: i64) -> bool
     ensures { result ≡ expr.is_true x }
 {
     x != 0
 }
 
+#[inline(always)]
 pub fn truth(b: bool) -> i64
     ensures { result ≡ expr.truth b }
 {
     if b { 1 } else { 0 }
 }
 
+#[inline(always)]
 pub fn op_result(op: Op, a: i64, b: i64) -> i64
     ensures { result ≡ expr.op_result op a b }
 {

@@ -6,27 +6,27 @@ use Rattle.task_code.specs.declared.instruction.Instruction.TheVariants.{Number}
 use Rattle.task_code.proofs.LoopLemmas.{run_on, height_fits, lets_fit, room_later, count_on}
 use Rattle.task_code.proofs.machine.Machine.run.Goals as goal
 
-pub act-given-requires-clause-stack : goal.act-given-requires-clause-stack
-act-given-requires-clause-stack g c =
+pub act-at-requires-clause-stack : goal.act-at-requires-clause-stack
+act-at-requires-clause-stack g c =
     omega (arith, c.loop-instruction.invariant.stack_fits, height_fits c.args.code.now c.loop-instruction.instruction-index (Number (pos 0)) (length c.loop-instruction.self.stack.numbers) (length c.loop-instruction.self.lets.numbers) (omega arith))
 
-pub act-given-requires-clause-lets : goal.act-given-requires-clause-lets
-act-given-requires-clause-lets g c =
+pub act-at-requires-clause-lets : goal.act-at-requires-clause-lets
+act-at-requires-clause-lets g c =
     omega (arith, c.loop-instruction.invariant.lets_fit, lets_fit c.args.code.now c.loop-instruction.instruction-index (Number (pos 0)) (length c.loop-instruction.self.stack.numbers) (length c.loop-instruction.self.lets.numbers) (omega arith))
 
 pub loop-instruction-preserved : goal.loop-instruction-preserved
 loop-instruction-preserved g c =
-    let now : State = state_of c.loop-instruction.self.stack c.loop-instruction.self.lets (take c.loop-instruction.given c.loop-instruction.out) in
-    let later : State = state_of c.act-given.new.self.stack c.act-given.new.self.lets (take c.act-given.result c.act-given.new.out) in
+    let now : State = state_of c.loop-instruction.at.top c.loop-instruction.self.stack c.loop-instruction.self.lets (take c.loop-instruction.at.given c.loop-instruction.out) in
+    let later : State = state_of c.act-at.result.top c.act-at.new.self.stack c.act-at.new.self.lets (take c.act-at.result.given c.act-at.new.out) in
     let d : Instruction = Number (pos 0) in
     let below : c.loop-instruction.instruction-index < length c.args.code.now = omega arith in
-    let room = room_later c.args.sensors.now c.args.cells.now c.args.code.now c.loop-instruction.instruction-index d now later below c.act-given.ensures.step in
+    let room = room_later c.args.sensors.now c.args.cells.now c.args.code.now c.loop-instruction.instruction-index d now later below c.act-at.ensures.step in
     record {
-      whole = run_on c.args.sensors.now c.args.cells.now c.args.code.now c.loop-instruction.instruction-index d now later below c.act-given.ensures.step ∙ c.loop-instruction.invariant.whole;
+      whole = run_on c.args.sensors.now c.args.cells.now c.args.code.now c.loop-instruction.instruction-index d now later below c.act-at.ensures.step ∙ c.loop-instruction.invariant.whole;
       left = omega (arith, count_on c.args.code.now c.loop-instruction.instruction-index d below);
       stack_fits = omega (arith, room);
       lets_fit = omega (arith, room);
-      stack_room = c.act-given.ensures.stack_room ∙ c.loop-instruction.invariant.stack_room;
-      lets_room = c.act-given.ensures.lets_room ∙ c.loop-instruction.invariant.lets_room;
+      stack_room = c.act-at.ensures.stack_room ∙ c.loop-instruction.invariant.stack_room;
+      lets_room = c.act-at.ensures.lets_room ∙ c.loop-instruction.invariant.lets_room;
       counted = omega arith;
     }

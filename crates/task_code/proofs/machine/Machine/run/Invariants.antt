@@ -5,9 +5,9 @@ use Rattle.task_code.proofs.machine.Machine.run.Given as goal
 
 abbrev pub invariant-loop-instruction : goal.invariant-loop-instruction
 invariant-loop-instruction g l = record {
-  whole : run l.sensors l.cells (drop l.instruction-index l.code) (state_of l.self.stack l.self.lets (take l.given l.out))
+  whole : run l.sensors l.cells (drop l.instruction-index l.code) (state_of l.at.top l.self.stack l.self.lets (take l.at.given l.out))
       ≡ run l.sensors l.cells l.code start;
-  left : l.given + result_count (drop l.instruction-index l.code) ≡ length l.out;
+  left : l.at.given + result_count (drop l.instruction-index l.code) ≡ length l.out;
   stack_fits : room_from (drop l.instruction-index l.code) (length l.self.stack.numbers) (length l.self.lets.numbers) ≤ l.self.stack.room;
   lets_fit : room_from (drop l.instruction-index l.code) (length l.self.stack.numbers) (length l.self.lets.numbers) ≤ l.self.lets.room;
   stack_room : l.self.stack.room ≡ l.initial.self.stack.room;
