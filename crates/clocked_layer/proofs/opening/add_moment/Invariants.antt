@@ -1,4 +1,4 @@
-use Rattle.std.proofs.Common.{◌≡◌, ◌*◌}
+use Rattle.std.proofs.Common.{◌≡◌}
 use Rattle.std.specs.List.{flat_map, range_with_len}
 use Rattle.clocked_layer.specs.Opening.{AddsUpTo, moment_at}
 use Rattle.event_queue.specs.Agenda.{in_turn_from}
