@@ -1,6 +1,6 @@
 //! The lines of a run, and how a line is put together.
 //! This project's own.
-ghost use Rattle.std.specs.Prelude.{◌≡◌, ◌+◌, ◌*◌, ◌≤◌, ◌++◌, codes, length, IfOk, OnOk};
+ghost use Rattle.std.specs.Prelude.{◌≡◌, ◌+◌, ◌*◌, ◌<◌, ◌≤◌, ◌++◌, codes, length, IfOk, OnOk};
 ghost use Rattle.std.specs.Fmt.{decimal, signed_decimal};
 ghost use Rattle.std.specs.Vec.{vec_capacity};
 ghost use Rattle.rcp_base.specs.declared.TheConstants.{MAX_CELLS};
@@ -13,7 +13,7 @@ mod plan;
 mod refusals;
 
 use crate::label::{Label, label_word};
-use crate::piece::{Piece, down_or_up, value_or_none, yes_or_no};
+use crate::piece::{Piece, down_or_up, guard_end, value_or_none, working_end};
 use crate::words::{key_word, section_word};
 use event_queue::{Event, EventKind};
 use itoa::Buffer;
@@ -59,9 +59,7 @@ impl Lines {
         self.line(&[
             Piece::Text(b"frame "),
             Piece::Count(t as u64),
-            Piece::Text(b" guard "),
-            yes_or_no(guard),
-            Piece::Text(b"\n"),
+            guard_end(guard),
         ])
     }
 
@@ -110,15 +108,11 @@ impl Lines {
         self.line(&[
             Piece::Text(b"replica "),
             Piece::Count(replica as u64),
-            Piece::Text(b" "),
             down_or_up(down),
-            Piece::Text(b" slot "),
             Piece::Count(slot as u64),
             Piece::Text(b" cells"),
             Piece::Values(cells),
-            Piece::Text(b" working "),
-            yes_or_no(working),
-            Piece::Text(b"\n"),
+            working_end(working),
         ])
     }
 
@@ -219,6 +213,7 @@ impl Lines {
     }
 
     // Puts these bytes after the line so far.
+    #[inline(always)]
     fn put(&mut self, bytes: &[u8])
         requires { length self.old.line.items + length bytes.now ≤ ROOM }
         ensures { self.new.line.items ≡ self.old.line.items ++ bytes.now }
@@ -231,8 +226,24 @@ impl Lines {
         ensures put { self.new.line.items ≡ self.old.line.items ++ decimal n }
         ensures room { length self.new.line.items ≤ length self.old.line.items + 20 }
     {
-        let mut digits = Buffer::new();
-        self.put(digits.format(n).as_bytes());
+        if n < 10 {
+            self.put_digit(n as u8);
+        } else {
+            let mut digits = Buffer::new();
+            self.put(digits.format(n).as_bytes());
+        }
+    }
+
+    // Puts a number of one digit, as most are that are printed.
+    #[inline(always)]
+    #[tactic(auto, using(std::proofs::lemmas::Fmt::decimal_digit))]
+    fn put_digit(&mut self, digit: u8)
+        requires digit { digit < 10 }
+        requires room { length self.old.line.items + 1 ≤ ROOM }
+        ensures put { self.new.line.items ≡ self.old.line.items ++ decimal digit }
+        ensures room { length self.new.line.items ≡ length self.old.line.items + 1 }
+    {
+        self.put(&[b'0' + digit]);
     }
 
     fn put_value(&mut self, n: &i64)
@@ -240,8 +251,12 @@ impl Lines {
         ensures put { self.new.line.items ≡ self.old.line.items ++ signed_decimal n.now }
         ensures room { length self.new.line.items ≤ length self.old.line.items + 20 }
     {
-        let mut digits = Buffer::new();
-        self.put(digits.format(*n).as_bytes());
+        if 0 <= *n && *n < 10 {
+            self.put_digit(*n as u8);
+        } else {
+            let mut digits = Buffer::new();
+            self.put(digits.format(*n).as_bytes());
+        }
     }
 
     // Each value after a space.

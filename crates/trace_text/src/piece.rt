@@ -1,6 +1,6 @@
 //! A piece of a line, and the pieces of what is one of two things.
 //! This project's own.
-ghost use Rattle.std.specs.Prelude.{◌≡◌, ◌≤◌};
+ghost use Rattle.std.specs.Prelude.{◌≡◌, ◌≤◌, ◌++◌, codes};
 ghost use Rattle.trace_text.specs.inner.Pieces.{piece_room, piece_text};
 ghost use Rattle.trace_text.specs.Lines as spec;
 
@@ -18,27 +18,39 @@ pub enum Piece<'a> {
     Place(Path),
 }
 
-/// `yes` or `no`
-pub fn yes_or_no(test: bool) -> Piece<'static>
-    ensures text { piece_text result ≡ spec.yes_or_no test }
+/// ` guard yes` or ` guard no`, and the line feed
+pub fn guard_end(guard: bool) -> Piece<'static>
+    ensures text { piece_text result ≡ codes " guard " ++ spec.yes_or_no guard ++ codes "\n" }
     ensures room { piece_room result ≤ 20 }
 {
-    if test {
-        Piece::Text(b"yes")
+    if guard {
+        Piece::Text(b" guard yes\n")
     } else {
-        Piece::Text(b"no")
+        Piece::Text(b" guard no\n")
     }
 }
 
-/// `down` or `up`
+/// ` working yes` or ` working no`, and the line feed
+pub fn working_end(working: bool) -> Piece<'static>
+    ensures text { piece_text result ≡ codes " working " ++ spec.yes_or_no working ++ codes "\n" }
+    ensures room { piece_room result ≤ 20 }
+{
+    if working {
+        Piece::Text(b" working yes\n")
+    } else {
+        Piece::Text(b" working no\n")
+    }
+}
+
+/// ` down slot ` or ` up slot `
 pub fn down_or_up(down: bool) -> Piece<'static>
-    ensures text { piece_text result ≡ spec.down_or_up down }
+    ensures text { piece_text result ≡ codes " " ++ spec.down_or_up down ++ codes " slot " }
     ensures room { piece_room result ≤ 20 }
 {
     if down {
-        Piece::Text(b"down")
+        Piece::Text(b" down slot ")
     } else {
-        Piece::Text(b"up")
+        Piece::Text(b" up slot ")
     }
 }
 
