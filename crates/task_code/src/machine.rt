@@ -62,7 +62,7 @@ impl Machine {
         let mut at = Progress { top: 0, given: 0 };
         for instruction in code {
             steps.tick();
-            at = self.act(*instruction, sensors, cells, out, at);
+            at = self.act(instruction, sensors, cells, out, at);
         }
     }
 
@@ -71,66 +71,78 @@ impl Machine {
     #[tactic(auto, using(crate::proofs::StackLemmas::length_rest))]
     pub fn act(
         &mut self,
-        instruction: Instruction,
+        instruction: &Instruction,
         sensors: &[i64],
         cells: &[i64],
         out: &mut [i64],
         at: Progress,
     ) -> Progress
-        requires stack { machine.height_after instruction (length self.old.stack.numbers)
+        requires stack { machine.height_after instruction.now (length self.old.stack.numbers)
             ≤ self.old.stack.room }
-        requires lets { machine.lets_after instruction (length self.old.lets.numbers)
+        requires lets { machine.lets_after instruction.now (length self.old.lets.numbers)
             ≤ self.old.lets.room }
-        requires results { at.given + machine.gives instruction ≤ length out.old }
+        requires results { at.given + machine.gives instruction.now ≤ length out.old }
         ensures step { machine.state_of
             result.top self.new.stack self.new.lets (take result.given out.new)
-            ≡ machine.step sensors.now cells.now instruction (machine.state_of
+            ≡ machine.step sensors.now cells.now instruction.now (machine.state_of
             at.top self.old.stack self.old.lets (take at.given out.old)) }
-        ensures given { result.given ≡ at.given + machine.gives instruction }
+        ensures given { result.given ≡ at.given + machine.gives instruction.now }
         ensures stack_room { self.new.stack.room ≡ self.old.stack.room }
         ensures lets_room { self.new.lets.room ≡ self.old.lets.room }
     {
         let Progress { top, given } = at;
-        let top = match instruction {
-            Instruction::Number(n) => push(&mut self.stack, top, n),
-            Instruction::Sensor(i) => push(&mut self.stack, top, value_at(sensors, i)),
-            Instruction::Cell(i) => push(&mut self.stack, top, value_at(cells, i)),
-            Instruction::Let(i) => push(&mut self.stack, top, value_at(self.lets.as_slice(), i)),
-            Instruction::Neg => neg(top),
-            Instruction::Not => truth(!is_true(top)),
-            Instruction::Abs => abs(top),
-            Instruction::Two(op) => op_result(op, self.stack.pop(), top),
-            Instruction::WithNumber(op, n) => op_result(op, top, n),
-            Instruction::WithSensor(op, i) => op_result(op, top, value_at(sensors, i)),
-            Instruction::WithCell(op, i) => op_result(op, top, value_at(cells, i)),
-            Instruction::WithLet(op, i) => op_result(op, top, value_at(self.lets.as_slice(), i)),
-            Instruction::Clamp => clamp(&mut self.stack, top),
-            Instruction::If => choose(&mut self.stack, top),
+        let (op, a, b) = match *instruction {
+            Instruction::Two(op) => (op, self.stack.pop(), top),
+            Instruction::WithNumber(op, n) => (op, top, n),
+            Instruction::WithSensor(op, i) => (op, top, value_at(sensors, i)),
+            Instruction::WithCell(op, i) => (op, top, value_at(cells, i)),
+            Instruction::WithLet(op, i) => (op, top, value_at(self.lets.as_slice(), i)),
+            Instruction::Number(n) => return push(&mut self.stack, at, n),
+            Instruction::Sensor(i) => return push(&mut self.stack, at, value_at(sensors, i)),
+            Instruction::Cell(i) => return push(&mut self.stack, at, value_at(cells, i)),
+            Instruction::Let(i) => {
+                return push(&mut self.stack, at, value_at(self.lets.as_slice(), i));
+            }
+            Instruction::Neg => return at.with_top(neg(top)),
+            Instruction::Not => return at.with_top(truth(!is_true(top))),
+            Instruction::Abs => return at.with_top(abs(top)),
+            Instruction::Clamp => return at.with_top(clamp(&mut self.stack, top)),
+            Instruction::If => return at.with_top(choose(&mut self.stack, top)),
             Instruction::Keep => {
                 self.lets.push(top);
-                self.stack.pop()
+                return at.with_top(self.stack.pop());
             }
             Instruction::Give => {
                 out[given] = top;
-                return Progress {
-                    top: self.stack.pop(),
-                    given: given + 1,
-                };
+                let top = self.stack.pop();
+                let given = given + 1;
+                return Progress { top, given };
             }
         };
+        at.with_top(op_result(op, a, b))
+    }
+}
+
+impl Progress {
+    // The same with another top.
+    #[inline(always)]
+    fn with_top(self, top: i64) -> Progress
+        ensures { result ≡ record self { top = top } }
+    {
+        let Progress { top: _, given } = self;
         Progress { top, given }
     }
 }
 
-// Puts the top so far on what stands below it, and gives the new one.
+// Puts the top at hand on what stands below it, and a number in its place.
 #[inline(always)]
-fn push(below: &mut Stack, top: i64, x: i64) -> i64
+fn push(below: &mut Stack, at: Progress, x: i64) -> Progress
     requires { length below.old.numbers < below.old.room }
-    ensures pushed { below.new ≡ record below.old { numbers = top ∷ below.old.numbers } }
-    ensures top { result ≡ x }
+    ensures pushed { below.new ≡ record below.old { numbers = at.top ∷ below.old.numbers } }
+    ensures top { result ≡ record at { top = x } }
 {
-    below.push(top);
-    x
+    below.push(at.top);
+    at.with_top(x)
 }
 
 // The number between its least and its greatest, of the three topmost.
