@@ -17,7 +17,8 @@ pub record State : Type 0 where
 
 -- the state with this top and these buffers
 abbrev pub state_of : ℤ → Buffer → Buffer → List ℤ → State
-state_of top below lets results = record { top = top; below = below.numbers; lets = lets.numbers; results = results }
+state_of top below lets results =
+    record { top = top; below = below.numbers; lets = lets.numbers; results = results }
 
 -- the state before the first instruction
 abbrev pub start : State
