@@ -2,12 +2,11 @@
 //! This project's own.
 ghost use Rattle.std.specs.Prelude.{◌≡◌, ◌<◌, ◌≤◌, IfSome, None};
 ghost use Rattle.rcp_base.specs.declared.TheConstants.{MAX_FRAMES};
-ghost use Rattle.rcp_base.specs.Tables.{table};
 ghost use Rattle.rcp_model.specs.declared.plan.PlanParts.{PlanParts};
 ghost use Rattle.rcp_model.specs.Messages.{letter_to};
-ghost use Rattle.replica_parts.specs.Places.{letters_in, post_at};
+ghost use Rattle.replica_parts.specs.Places.{post_at};
 ghost use Rattle.replica_parts.specs.Quiet.{IsQuietArrival};
-ghost use Rattle.replica_parts.specs.Rooms.{ArePostRows, ArePosts, HasRoom};
+ghost use Rattle.replica_parts.specs.Rooms.{ArePostRows, HasRoom};
 ghost use Rattle.replica_parts.specs.Setting.{HasPlanWith, IsSettingOf};
 ghost use Rattle.clocked_layer.specs.Block.{put_column, put_pair};
 

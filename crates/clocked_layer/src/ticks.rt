@@ -1,4 +1,4 @@
-//! A replica's moments in a frame, by the frame's rows.
+//! A replica's moments in a frame and the arrivals of messages, by the frame's rows.
 //! After NASA TM-104196.
 ghost use Rattle.std.specs.Prelude.{◌≡◌, ◌==◌, ◌<◌, ◌≤◌, IfSome, None, Some, not, if◌then◌else◌};
 ghost use Rattle.clock_model.specs.Order as moments;
