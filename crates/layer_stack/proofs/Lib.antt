@@ -1,3 +1,4 @@
+pub mod QuietLaws
 mod FrameLemmas
 mod BeginningLemmas
 mod LengthLemmas

@@ -1,6 +1,6 @@
 //! Which replicas are healthy in a frame.
 //! This project's own.
-ghost use Rattle.std.specs.Prelude.{◌≡◌, ◌<◌, ◌≤ℤ◌, pos, length, is_none};
+ghost use Rattle.std.specs.Prelude.{◌≡◌, ◌<◌, ◌&&◌, ◌≤ℤ◌, pos, length, is_none};
 ghost use Rattle.rcp_model.specs.declared.plan.PlanParts.{PlanParts};
 ghost use Rattle.rcp_model.specs.FrameLimits.{IsFrameOf};
 ghost use Rattle.rcp_model.specs.FrameRows.{AreRowsOf, cell_row, act_row, lie_row};
@@ -27,10 +27,23 @@ fn is_healthy(parts: &PlanParts, input: &FrameIn, replica: u32) -> bool
     requires drift { pos 0 ≤ℤ parts.now.timing.drift_ppm }
     ensures { result ≡ model.is_healthy parts.now input.now replica }
 {
-    is_untouched(input, replica)
+    is_unharmed(parts, input, replica)
         && keeps_time(&parts.timing, input, replica)
-        && is_faithful_to_all(parts, input, replica)
         && is_timely_to_all(parts, input, replica)
+}
+
+// Whether no row touches the replica or its messages, as none does where only sensors were written.
+#[tactic(auto, using(crate::proofs::QuietLaws::unharmed))]
+fn is_unharmed(parts: &PlanParts, input: &FrameIn, replica: u32) -> bool
+    requires rows { AreRowsOf parts.now input.now }
+    requires replica { replica < parts.now.replicas }
+    ensures { result ≡ (model.is_untouched parts.now input.now replica
+        && all_below parts.now.replicas (model.is_faithful parts.now input.now replica)) }
+{
+    if input.is_quiet() {
+        return true;
+    }
+    is_untouched(input, replica) && is_faithful_to_all(parts, input, replica)
 }
 
 // Whether no row changes or drops one of the replica's messages.

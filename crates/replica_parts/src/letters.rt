@@ -20,30 +20,6 @@ use crate::setting::Setting;
 use layer_stack::FrameIn;
 use mailbox::Message;
 
-/// Puts what goes out from a sender of this message to a receiver into a place. Takes no memory.
-pub fn write_letter(
-    setting: &Setting,
-    frame: u32,
-    input: &FrameIn,
-    own: &Message,
-    sender: u32,
-    receiver: u32,
-    place: &mut Post,
-)
-    requires of { HasPlanWith setting.now input.now }
-    requires frame { frame ≤ MAX_FRAMES }
-    requires sender { sender < setting.now.replicas }
-    requires receiver { receiver < setting.now.replicas }
-    requires own { HasRoom setting.now own.now }
-    requires room { IsPost setting.now place.old }
-    ensures letter { (plan : PlanParts) → IsSettingOf plan setting.now
-        → letter_in place.new ≡ letter_to plan frame input.now own.now sender receiver }
-    ensures room { IsPost setting.now place.new }
-{
-    let arrival = quiet_arrival(setting, frame, input);
-    put_letter(setting, frame, input, arrival, own, sender, receiver, place);
-}
-
 // Puts what goes out as the rows have it, whichever were written.
 fn write_by_rows(
     setting: &Setting,

@@ -25,9 +25,7 @@ pub use hearing::{arrival_of, comes, hear, hear_all, take_message};
 pub use held::Held;
 pub use holding::{hold_all, hold_one, overwrite, sync};
 pub use keeping::{end_tick, keep_all, keep_row};
-pub use letters::{
-    goes_out, put_letter, quiet_arrival, shade, write_letter, write_row, write_rows,
-};
+pub use letters::{goes_out, put_letter, quiet_arrival, shade, write_row, write_rows};
 pub use making::{ballots, command_rows, initial_states, messages, post_rows, vote_places};
 pub use post::Post;
 pub use setting::{Setting, has_vote};
