@@ -1,3 +1,5 @@
 mod PieceLemmas
 mod VoteLemmas
 mod LineExamples
+mod DigitLemmas
+mod LineLemmas

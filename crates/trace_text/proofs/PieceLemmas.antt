@@ -42,10 +42,3 @@ value_put line between new whole values k d lt space put so_far =
     let digits = signed_decimal (get_or values k d) in
     ap (λ l. l ++ rest) put ∙ append_assoc between digits rest ∙ ap (λ l. l ++ (digits ++ rest)) space ∙ append_assoc line (32 ∷ []) (digits ++ rest)
     ∙ ap (λ t. line ++ t) (sym (ap numbers_text (left values k d lt))) ∙ so_far
-
--- the parts of a replica's line, by its pieces and as the line has them
-pub parts_apart : (a replica sp down b slot c cells d working nl : List ℕ)
-    → a ++ (replica ++ ((sp ++ down ++ (sp ++ b)) ++ (slot ++ (c ++ (cells
-    ++ (d ++ working ++ nl))))))
-    ≡ a ++ replica ++ sp ++ down ++ sp ++ (b ++ slot ++ c ++ cells) ++ d ++ working ++ nl
-parts_apart a replica sp down b slot c cells d working nl = simp append_assoc

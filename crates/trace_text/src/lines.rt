@@ -1,7 +1,7 @@
 //! The lines of a run, and how a line is put together.
 //! This project's own.
-ghost use Rattle.std.specs.Prelude.{◌≡◌, ◌+◌, ◌*◌, ◌<◌, ◌≤◌, ◌++◌, codes, length, IfOk, OnOk};
-ghost use Rattle.std.specs.Fmt.{decimal, signed_decimal};
+ghost use Rattle.std.specs.Prelude.{◌≡◌, ◌+◌, ◌*◌, ◌<◌, ◌≤◌, [], ◌∷◌, ◌++◌, codes, length, if◌then◌else◌, IfOk, OnOk};
+ghost use Rattle.std.specs.Fmt.{decimal};
 ghost use Rattle.std.specs.Vec.{vec_capacity};
 ghost use Rattle.rcp_base.specs.declared.TheConstants.{MAX_CELLS};
 ghost use Rattle.task_file.specs.PathText.{bracketed, dotted, path_text};
@@ -9,14 +9,14 @@ ghost use Rattle.trace_text.specs.declared.lines.TheConstants.{ROOM};
 ghost use Rattle.trace_text.specs.inner.Pieces.{piece_room, piece_text, room_of, text_of};
 ghost use Rattle.trace_text.specs.Lines as spec;
 
+mod numbers;
 mod plan;
 mod refusals;
 
 use crate::label::{Label, label_word};
-use crate::piece::{Piece, down_or_up, guard_end, value_or_none, working_end};
+use crate::piece::Piece;
 use crate::words::{key_word, section_word};
 use event_queue::{Event, EventKind};
-use itoa::Buffer;
 use rcp_base::{Memory, Name};
 use std::alloc::Global;
 use task_file::{Key, Path};
@@ -44,11 +44,9 @@ impl Lines {
     pub fn frame(&mut self, t: u32) -> &[u8]
         ensures { result.now ≡ spec.frame_line t }
     {
-        self.line(&[
-            Piece::Text(b"frame "),
-            Piece::Count(t as u64),
-            Piece::Text(b"\n"),
-        ])
+        self.start(b"frame ");
+        self.put_count(t as u64);
+        self.finish()
     }
 
     /// `frame T guard G`
@@ -56,11 +54,10 @@ impl Lines {
     pub fn frame_guard(&mut self, t: u32, guard: bool) -> &[u8]
         ensures { result.now ≡ spec.frame_guard_line t guard }
     {
-        self.line(&[
-            Piece::Text(b"frame "),
-            Piece::Count(t as u64),
-            guard_end(guard),
-        ])
+        self.start(b"frame ");
+        self.put_count(t as u64);
+        self.put_either(guard, b" guard yes\n", b" guard no\n");
+        self.line.as_slice()
     }
 
     /// `vote NAME VALUE`, or `vote NAME none`
@@ -68,13 +65,11 @@ impl Lines {
     pub fn vote(&mut self, name: &Name, value: Option<i64>) -> &[u8]
         ensures { result.now ≡ spec.vote_line name.now value }
     {
-        self.line(&[
-            Piece::Text(b"vote "),
-            Piece::Text(name.bytes()),
-            Piece::Text(b" "),
-            value_or_none(value),
-            Piece::Text(b"\n"),
-        ])
+        self.start(b"vote ");
+        self.put(name.bytes());
+        self.put_byte(b' ');
+        self.put_value_or_none(value);
+        self.finish()
     }
 
     /// `ideal slot S cells V V ..`
@@ -83,13 +78,9 @@ impl Lines {
         requires { length cells.now ≤ MAX_CELLS }
         ensures { result.now ≡ spec.ideal_line slot cells.now }
     {
-        self.line(&[
-            Piece::Text(b"ideal slot "),
-            Piece::Count(slot as u64),
-            Piece::Text(b" cells"),
-            Piece::Values(cells),
-            Piece::Text(b"\n"),
-        ])
+        self.start(b"ideal slot ");
+        self.put_state(slot, cells);
+        self.finish()
     }
 
     /// `replica P up slot S cells V V .. working G`
@@ -105,15 +96,12 @@ impl Lines {
         requires { length cells.now ≤ MAX_CELLS }
         ensures { result.now ≡ spec.replica_line replica down slot cells.now working }
     {
-        self.line(&[
-            Piece::Text(b"replica "),
-            Piece::Count(replica as u64),
-            down_or_up(down),
-            Piece::Count(slot as u64),
-            Piece::Text(b" cells"),
-            Piece::Values(cells),
-            working_end(working),
-        ])
+        self.start(b"replica ");
+        self.put_count(replica as u64);
+        self.put_either(down, b" down slot ", b" up slot ");
+        self.put_state(slot, cells);
+        self.put_either(working, b" working yes\n", b" working no\n");
+        self.line.as_slice()
     }
 
     /// `TICK begin P` and its like, or `TICK deliver FROM to TO of FRAME`
@@ -121,36 +109,42 @@ impl Lines {
     pub fn event(&mut self, event: &Event) -> &[u8]
         ensures { result.now ≡ spec.event_line event.now }
     {
+        self.line.clear();
+        self.put_value(&event.tick);
         match event.kind {
-            EventKind::Begin => self.own_event(event, b" begin "),
-            EventKind::Send => self.own_event(event, b" send "),
-            EventKind::Deliver => self.line(&[
-                Piece::Value(event.tick),
-                Piece::Text(b" deliver "),
-                Piece::Count(event.other as u64),
-                Piece::Text(b" to "),
-                Piece::Count(event.replica as u64),
-                Piece::Text(b" of "),
-                Piece::Count(event.frame as u64),
-                Piece::Text(b"\n"),
-            ]),
-            EventKind::Vote => self.own_event(event, b" vote "),
-            EventKind::Sync => self.own_event(event, b" sync "),
+            EventKind::Begin => self.own_event(b" begin ", event.replica),
+            EventKind::Send => self.own_event(b" send ", event.replica),
+            EventKind::Deliver => self.delivery(event),
+            EventKind::Vote => self.own_event(b" vote ", event.replica),
+            EventKind::Sync => self.own_event(b" sync ", event.replica),
         }
     }
 
-    // The line of an event of a replica's own, with this word.
-    fn own_event(&mut self, event: &Event, word: &[u8]) -> &[u8]
-        requires { length word.now ≤ 8 }
-        ensures { result.now ≡ signed_decimal event.now.tick
-            ++ word.now ++ decimal event.now.replica ++ codes "\n" }
+    // The line so far, and what follows the tick of an event of a replica's own.
+    #[inline(always)]
+    fn own_event(&mut self, word: &[u8], replica: u32) -> &[u8]
+        requires { length self.old.line.items + length word.now ≤ 30 }
+        ensures { result.now ≡ self.old.line.items ++ word.now ++ decimal replica ++ codes "\n" }
     {
-        self.line(&[
-            Piece::Value(event.tick),
-            Piece::Text(word),
-            Piece::Count(event.replica as u64),
-            Piece::Text(b"\n"),
-        ])
+        self.put(word);
+        self.put_count(replica as u64);
+        self.finish()
+    }
+
+    // The line so far, and what follows the tick of a delivery.
+    fn delivery(&mut self, event: &Event) -> &[u8]
+        requires { length self.old.line.items ≤ 20 }
+        ensures { result.now ≡ self.old.line.items ++ codes " deliver " ++ decimal event.now.other
+            ++ codes " to " ++ decimal event.now.replica
+            ++ codes " of " ++ decimal event.now.frame ++ codes "\n" }
+    {
+        self.put(b" deliver ");
+        self.put_count(event.other as u64);
+        self.put(b" to ");
+        self.put_count(event.replica as u64);
+        self.put(b" of ");
+        self.put_count(event.frame as u64);
+        self.finish()
     }
 
     /// `recovery L`, `votes COUNT`, `end FRAMES` and their like
@@ -158,12 +152,30 @@ impl Lines {
     pub fn count(&mut self, label: Label, value: u64) -> &[u8]
         ensures { result.now ≡ spec.count_line label value }
     {
-        self.line(&[
-            Piece::Text(label_word(label)),
-            Piece::Text(b" "),
-            Piece::Count(value),
-            Piece::Text(b"\n"),
-        ])
+        self.start(label_word(label));
+        self.put_byte(b' ');
+        self.put_count(value);
+        self.finish()
+    }
+
+    // Starts a line with this word.
+    #[inline(always)]
+    fn start(&mut self, word: &[u8])
+        requires { length word.now ≤ ROOM }
+        ensures { self.new.line.items ≡ word.now }
+    {
+        self.line.clear();
+        self.put(word);
+    }
+
+    // Ends a line that has room for it.
+    #[inline(always)]
+    fn finish(&mut self) -> &[u8]
+        requires { length self.old.line.items < ROOM }
+        ensures { result.now ≡ self.old.line.items ++ codes "\n" }
+    {
+        self.put_byte(b'\n');
+        self.line.as_slice()
     }
 
     // The line of these pieces.
@@ -206,70 +218,70 @@ impl Lines {
         match piece {
             Piece::Text(bytes) => self.put(bytes),
             Piece::Count(n) => self.put_count(*n),
-            Piece::Value(n) => self.put_value(n),
-            Piece::Values(values) => self.put_values(values),
             Piece::Place(path) => self.put_path(path),
         }
     }
 
-    // Puts these bytes after the line so far.
+    // Puts these bytes after the line so far. Where they are constant, the copy is a store or two.
     #[inline(always)]
     fn put(&mut self, bytes: &[u8])
         requires { length self.old.line.items + length bytes.now ≤ ROOM }
-        ensures { self.new.line.items ≡ self.old.line.items ++ bytes.now }
+        ensures put { self.new.line.items ≡ self.old.line.items ++ bytes.now }
+        ensures length { length self.new.line.items
+            ≡ length self.old.line.items + length bytes.now }
     {
         let _put = self.line.extend_from_slice(bytes);
     }
 
-    fn put_count(&mut self, n: u64)
-        requires { length self.old.line.items + 20 ≤ ROOM }
-        ensures put { self.new.line.items ≡ self.old.line.items ++ decimal n }
-        ensures room { length self.new.line.items ≤ length self.old.line.items + 20 }
-    {
-        if n < 10 {
-            self.put_digit(n as u8);
-        } else {
-            let mut digits = Buffer::new();
-            self.put(digits.format(n).as_bytes());
-        }
-    }
-
-    // Puts a number of one digit, as most are that are printed.
+    // Puts this byte after the line so far.
     #[inline(always)]
-    #[tactic(auto, using(std::proofs::lemmas::Fmt::decimal_digit))]
-    fn put_digit(&mut self, digit: u8)
-        requires digit { digit < 10 }
-        requires room { length self.old.line.items + 1 ≤ ROOM }
-        ensures put { self.new.line.items ≡ self.old.line.items ++ decimal digit }
-        ensures room { length self.new.line.items ≡ length self.old.line.items + 1 }
+    fn put_byte(&mut self, byte: u8)
+        requires { length self.old.line.items < ROOM }
+        ensures put { self.new.line.items ≡ self.old.line.items ++ byte ∷ [] }
+        ensures length { length self.new.line.items ≡ length self.old.line.items + 1 }
     {
-        self.put(&[b'0' + digit]);
+        self.line.push_reserved(byte);
     }
 
-    fn put_value(&mut self, n: &i64)
+    // Puts the first of two texts, or the second.
+    #[inline(always)]
+    fn put_either(&mut self, test: bool, first: &[u8], second: &[u8])
+        requires { (length self.old.line.items + length first.now ≤ ROOM)
+            × (length self.old.line.items + length second.now ≤ ROOM) }
+        ensures { self.new.line.items
+            ≡ self.old.line.items ++ (if test then first.now else second.now) }
+    {
+        if test {
+            self.put(first);
+        } else {
+            self.put(second);
+        }
+    }
+
+    // A value, or `none`
+    fn put_value_or_none(&mut self, value: Option<i64>)
         requires { length self.old.line.items + 20 ≤ ROOM }
-        ensures put { self.new.line.items ≡ self.old.line.items ++ signed_decimal n.now }
+        ensures put { self.new.line.items ≡ self.old.line.items ++ spec.value_or_none value }
         ensures room { length self.new.line.items ≤ length self.old.line.items + 20 }
     {
-        if 0 <= *n && *n < 10 {
-            self.put_digit(*n as u8);
-        } else {
-            let mut digits = Buffer::new();
-            self.put(digits.format(*n).as_bytes());
+        match value {
+            Some(value) => self.put_value(&value),
+            None => self.put(b"none"),
         }
     }
 
-    // Each value after a space.
-    fn put_values(&mut self, values: &[i64])
-        requires { length self.old.line.items + 21 * length values.now ≤ ROOM }
-        ensures put { self.new.line.items ≡ self.old.line.items ++ spec.numbers_text values.now }
+    // `S cells V V ..`, after `slot `
+    #[inline(always)]
+    fn put_state(&mut self, slot: u32, cells: &[i64])
+        requires { length self.old.line.items + 26 + 21 * length cells.now ≤ ROOM }
+        ensures put { self.new.line.items ≡ self.old.line.items
+            ++ decimal slot ++ codes " cells" ++ spec.numbers_text cells.now }
         ensures room { length self.new.line.items
-            ≤ length self.old.line.items + 21 * length values.now }
+            ≤ length self.old.line.items + 26 + 21 * length cells.now }
     {
-        for value in values {
-            self.put(b" ");
-            self.put_value(value);
-        }
+        self.put_count(slot as u64);
+        self.put(b" cells");
+        self.put_values(cells);
     }
 
     // A place in a task file.

@@ -1,17 +1,14 @@
 -- A line as its pieces, and how much room they take at most. This project's own.
-use Rattle.std.specs.Prelude.{ℕ, ◌+◌, ◌*◌, List, [], ◌∷◌, ◌++◌, length}
-use Rattle.std.specs.Fmt.{decimal, signed_decimal}
+use Rattle.std.specs.Prelude.{ℕ, ◌+◌, List, [], ◌∷◌, ◌++◌, length}
+use Rattle.std.specs.Fmt.{decimal}
 use Rattle.task_file.specs.PathText.{path_text}
 use Rattle.trace_text.specs.declared.piece.Piece.{Piece}
 use Rattle.trace_text.specs.declared.piece.Piece.TheVariants as piece
-use Rattle.trace_text.specs.Lines.{numbers_text}
 
 -- the bytes of a piece
 abbrev pub piece_text : Piece → List ℕ
 piece_text (piece.Text bytes) = bytes.now
 piece_text (piece.Count n) = decimal n
-piece_text (piece.Value n) = signed_decimal n
-piece_text (piece.Values ns) = numbers_text ns.now
 piece_text (piece.Place path) = path_text path
 
 -- the bytes of pieces, one after the other
@@ -24,8 +21,6 @@ text_of (piece ∷ pieces) = piece_text piece ++ text_of pieces
 abbrev pub piece_room : Piece → ℕ
 piece_room (piece.Text bytes) = length bytes.now
 piece_room (piece.Count n) = 20
-piece_room (piece.Value n) = 20
-piece_room (piece.Values ns) = 21 * length ns.now
 piece_room (piece.Place path) = 80
 
 -- the most bytes that they can have together
