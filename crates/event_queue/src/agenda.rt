@@ -50,6 +50,7 @@ impl Agenda {
     }
 
     /// Adds an event at its place. Takes no memory.
+    #[inline(always)]
     pub fn add(&mut self, event: Event)
         requires { 0 < self.old.spare }
         ensures { self.new ≡ with_event self.old event }
@@ -103,10 +104,20 @@ fn remove_front(events: &mut Vec<Event>, count: usize)
     ensures capacity { vec_capacity events.new ≡ vec_capacity events.old }
 {
     if 0 < count {
-        let left = events.len() - count;
-        events.copy_within(count.., 0);
-        events.truncate(left);
+        close_up(events, count);
     }
+}
+
+// Moves those after so many to the front.
+#[inline(never)]
+fn close_up(events: &mut Vec<Event>, count: usize)
+    requires { count ≤ length events.old.items }
+    ensures events { events.new.items ≡ drop count events.old.items }
+    ensures capacity { vec_capacity events.new ≡ vec_capacity events.old }
+{
+    let left = events.len() - count;
+    events.copy_within(count.., 0);
+    events.truncate(left);
 }
 
 // Takes out the event at a place of those that are left, and tells how many are gone from the front then.
@@ -190,6 +201,7 @@ fn is_last(events: &[Event], event: &Event) -> bool
 }
 
 // Puts an event at its place among events in order.
+#[inline(never)]
 fn put_amid(events: &mut Vec<Event>, event: Event)
     requires turn { InTurn events.old.items }
     requires room { length events.old.items < vec_capacity events.old }
