@@ -1,6 +1,6 @@
 //! What stands in the columns of a row.
 //! This project's own.
-ghost use Rattle.std.specs.Prelude.{◌≡◌, ◌<◌, ◌≤◌, length, map, option_map, position, IfOk, IfSome};
+ghost use Rattle.std.specs.Prelude.{◌≡◌, ◌<◌, ◌≤◌, length, map, option_map, position, IfOk, IfSome, MatchOption, MatchResult, None, OnOk, OnSome, Some};
 ghost use Rattle.std.specs.Str.{bytes_eq};
 ghost use Rattle.rcp_base.specs.Answers.{found_or, place_in};
 ghost use Rattle.rcp_model.specs.Plan.{IsPlan, variable_names, actuator_names};
@@ -30,14 +30,15 @@ pub fn written_row(
 {
     let [a, b, c, d] = texts;
     let [first, second, third, fourth] = columns_of(kind);
-    let row = bare_row(frame, kind).ok_or(JournalFault::Column {
+    let mut row = bare_row(frame, kind).ok_or(JournalFault::Column {
         row: number,
         column: 1,
     })?;
-    let row = row_with(plan, number, 3, row, first, a)?;
-    let row = row_with(plan, number, 4, row, second, b)?;
-    let row = row_with(plan, number, 5, row, third, c)?;
-    row_with(plan, number, 6, row, fourth, d)
+    read_column(plan, number, 3, &mut row, first, a)?;
+    read_column(plan, number, 4, &mut row, second, b)?;
+    read_column(plan, number, 5, &mut row, third, c)?;
+    read_column(plan, number, 6, &mut row, fourth, d)?;
+    Ok(row)
 }
 
 // The row of a frame before its columns are read.
@@ -56,61 +57,53 @@ fn bare_row(frame: &[u8], kind: Kind) -> Option<WrittenRow>
     })
 }
 
-// The row with what the column of this number gives it.
-fn row_with(
+// Gives a row what the column of this number holds.
+fn read_column(
     plan: &PlanParts,
     number: u32,
     at: u32,
-    row: WrittenRow,
+    row: &mut WrittenRow,
     column: Column,
     text: &[u8],
-) -> Result<WrittenRow, JournalFault>
+) -> Result<(), JournalFault>
     requires plan { IsPlan plan.now }
-    requires item { row.item < 64 }
-    ensures row { result
-        ≡ found_or (fault.Column number at) (spec.with_column plan.now row column text.now) }
-    ensures item { IfOk result (λ row. row.item < 64) }
+    requires item { row.old.item < 64 }
+    ensures row { MatchResult result
+        (λ _. spec.with_column plan.now row.old column text.now ≡ Some row.new)
+        (λ refused. (spec.with_column plan.now row.old column text.now ≡ None)
+        × (refused ≡ fault.Column number at)) }
+    ensures item { OnOk result (row.new.item < 64) }
 {
-    with_column(plan, row, column, text).ok_or(JournalFault::Column {
+    give(plan, row, column, text).ok_or(JournalFault::Column {
         row: number,
         column: at,
     })
 }
 
+// Gives a row what a column holds, if the text is such.
 #[tactic(auto, unfolding(crate::specs::Columns::with_column))]
-fn with_column(plan: &PlanParts, row: WrittenRow, column: Column, text: &[u8]) -> Option<WrittenRow>
+fn give(plan: &PlanParts, row: &mut WrittenRow, column: Column, text: &[u8]) -> Option<()>
     requires plan { IsPlan plan.now }
-    requires item { row.item < 64 }
-    ensures row { result ≡ spec.with_column plan.now row column text.now }
-    ensures item { IfSome result (λ row. row.item < 64) }
+    requires item { row.old.item < 64 }
+    ensures row { MatchOption result
+        (spec.with_column plan.now row.old column text.now ≡ None)
+        (λ _. spec.with_column plan.now row.old column text.now ≡ Some row.new) }
+    ensures item { OnSome result (row.new.item < 64) }
 {
     match column {
-        Column::Replica => Some(WrittenRow {
-            replica: integer_of(text)?,
-            ..row
-        }),
-        Column::Receiver => Some(WrittenRow {
-            receiver: integer_of(text)?,
-            ..row
-        }),
-        Column::SensorName => Some(WrittenRow {
-            item: variable_item(plan.sensors.as_slice(), text)?,
-            ..row
-        }),
-        Column::CellName => Some(WrittenRow {
-            item: variable_item(plan.cells.as_slice(), text)?,
-            ..row
-        }),
-        Column::ActuatorName => Some(WrittenRow {
-            item: actuator_item(plan.actuators.as_slice(), text)?,
-            ..row
-        }),
-        Column::Value => Some(WrittenRow {
-            value: integer_of(text)?,
-            ..row
-        }),
-        Column::Nothing => { if text.is_empty() { Some(row) } else { None } }
+        Column::Replica => row.replica = integer_of(text)?,
+        Column::Receiver => row.receiver = integer_of(text)?,
+        Column::SensorName => row.item = variable_item(plan.sensors.as_slice(), text)?,
+        Column::CellName => row.item = variable_item(plan.cells.as_slice(), text)?,
+        Column::ActuatorName => row.item = actuator_item(plan.actuators.as_slice(), text)?,
+        Column::Value => row.value = integer_of(text)?,
+        Column::Nothing => {
+            if !text.is_empty() {
+                return None;
+            }
+        }
     }
+    Some(())
 }
 
 // The number of the sensor or cell of this name.

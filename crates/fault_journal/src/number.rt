@@ -1,51 +1,31 @@
 //! The numbers of a journal: an optional minus, and digits.
 //! This project's own.
-ghost use Rattle.std.specs.Prelude.{◌≡◌, true, if◌then◌else◌};
-ghost use Rattle.std.specs.Char.{is_ascii_digit};
-ghost use Rattle.std.specs.List.{list_all};
+ghost use Rattle.std.specs.Prelude.{◌≡◌, ◌≢◌, ◌==◌, slice_index};
 ghost use Rattle.fault_journal.specs.Number as spec;
 
 /// The number that a text writes, if it writes one and 64 bits hold it.
-#[tactic(auto, unfolding(crate::specs::Number::integer_of))]
+#[tactic(auto, using(crate::proofs::NumberLemmas::no_number_after_a_plus))]
 pub fn integer_of(text: &[u8]) -> Option<i64>
     ensures { result ≡ spec.integer_of text.now }
 {
-    if is_number(text) {
-        worth_of(text)
-    } else {
+    if begins_with_plus(text) {
         None
+    } else {
+        parsed(text)
     }
 }
 
-fn is_number(text: &[u8]) -> bool
-    ensures { result ≡ spec.is_number text.now }
+// Such a text is a number to std, and none here.
+fn begins_with_plus(text: &[u8]) -> bool
+    ensures { result ≡ (slice_index text.now 0 == 43) }
 {
-    let digits = digits_in(text);
-    !digits.is_empty() && are_digits(digits)
+    matches!(text, [b'+', ..])
 }
 
-// The text without a minus that stands first.
-fn digits_in(text: &[u8]) -> &[u8]
-    ensures { result.now ≡ spec.digits_in text.now }
-{
-    match text {
-        [b'-', digits @ ..] => digits,
-        _ => text,
-    }
-}
-
-fn are_digits(text: &[u8]) -> bool
-    ensures { result ≡ list_all is_ascii_digit text.now }
-{
-    text.iter().all(|b| b.is_ascii_digit())
-}
-
-// What the text of a number is worth, where 64 bits hold it.
-fn worth_of(text: &[u8]) -> Option<i64>
-    requires { spec.is_number text.now ≡ true }
-    ensures { result
-        ≡ (if spec.fits_in_64_bits (spec.worth text.now)
-        then Some (spec.worth text.now) else None) }
+// The number that a text writes which no plus begins, as std reads it.
+fn parsed(text: &[u8]) -> Option<i64>
+    requires { slice_index text.now 0 ≢ 43 }
+    ensures { result ≡ spec.integer_of text.now }
 {
     match str::from_utf8(text) {
         Ok(text) => text.parse::<i64>().ok(),
