@@ -52,6 +52,27 @@ pub(crate) fn put_rows(
         (commands_after_rows input.now replica given) }
     ensures size { length commands.new.items ≡ setting.now.actuators }
 {
+    if !input.is_quiet() {
+        overwrite(setting, input, replica, commands);
+    }
+}
+
+// The same, whichever rows were written.
+fn overwrite(
+    setting: &Setting,
+    input: &FrameIn,
+    replica: u32,
+    commands: &mut Vec<Option<i64>>,
+)
+    requires of { HasPlanWith setting.now input.now }
+    requires replica { replica < setting.now.replicas }
+    requires size { length commands.old.items ≡ setting.now.actuators }
+    ensures commands { (given : ℕ → Option ℤ)
+        → commands.old.items ≡ by_number setting.now.actuators given
+        → commands.new.items ≡ by_number setting.now.actuators
+        (commands_after_rows input.now replica given) }
+    ensures size { length commands.new.items ≡ setting.now.actuators }
+{
     for actuator in 0..setting.actuators() {
         let number = actuator as usize;
         commands[number] = input.act(replica, actuator).or(commands[number]);

@@ -177,6 +177,7 @@ fn finish_at(phases: &mut Vec<Phase>, replica: u32, input: &FrameIn)
 }
 
 // Takes the phase of a replica out.
+#[inline(always)]
 fn take_at(phases: &mut Vec<Phase>, replica: u32) -> Phase
     requires { replica < length phases.old.items }
     ensures phase { result ≡ slice_index_or phases.old.items replica Moving }
@@ -186,6 +187,7 @@ fn take_at(phases: &mut Vec<Phase>, replica: u32) -> Phase
 }
 
 // Gives a replica its phase.
+#[inline(always)]
 fn put_at(phases: &mut Vec<Phase>, replica: u32, phase: Phase)
     requires { replica < length phases.old.items }
     ensures { phases.new.items ≡ set phases.old.items replica phase }

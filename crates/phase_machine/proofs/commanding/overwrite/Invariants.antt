@@ -1,7 +1,7 @@
 use Rattle.phase_machine.specs.Body.{commands_after_rows}
 use Rattle.rcp_base.specs.Filling.{Filled}
 use Rattle.std.proofs.Common.{None, get_or, ℕ}
-use Rattle.phase_machine.proofs.commanding.put_rows.Given as goal
+use Rattle.phase_machine.proofs.commanding.overwrite.Given as goal
 
 abbrev pub invariant-loop-actuator : goal.invariant-loop-actuator
 invariant-loop-actuator l = record {
