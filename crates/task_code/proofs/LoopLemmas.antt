@@ -2,7 +2,6 @@
 use Rattle.std.proofs.Common.{◌≡◌, ℕ, ◌+◌, ◌≤◌, ◌<◌, max, ℤ, List, [], ◌∷◌, length, get_or, drop, ap, sym, ◌∙◌, add-one, drop-cons, arith}
 use Rattle.task_code.specs.declared.instruction.Instruction.{Instruction}
 use Rattle.task_code.specs.Machine.{State, step, run, height_after, lets_after, room_from, result_count, gives}
-use Rattle.task_code.proofs.StackLemmas.{height_step, lets_step}
 
 next : (code : List Instruction) (at : ℕ) (d : Instruction) → at < length code → drop at code ≡ get_or code at d ∷ drop (at + 1) code
 next code at d below = rw add-one (drop-cons code at d below)
@@ -40,15 +39,13 @@ pub lets_fit : (code : List Instruction) (at : ℕ) (d : Instruction) (height le
 lets_fit code at d height lets below =
     omega (arith, room_on code at d height lets below, room_here (drop (at + 1) code) (height_after (get_or code at d) height) (lets_after (get_or code at d) lets))
 
--- the same room serves from the next state
+-- the same room serves from the next instruction on
 pub room_later :
-    (sensors cells : List ℤ) (code : List Instruction) (at : ℕ) (d : Instruction) (now later : State) → at < length code →
-    later ≡ step sensors cells (get_or code at d) now →
-    room_from (drop (at + 1) code) (length later.below) (length later.lets) ≤ room_from (drop at code) (length now.below) (length now.lets)
-room_later sensors cells code at d now later below is =
-    let height : length later.below ≡ height_after (get_or code at d) (length now.below) = ap (λ s. length s.below) is ∙ height_step sensors cells (get_or code at d) now in
-    let lets : length later.lets ≡ lets_after (get_or code at d) (length now.lets) = ap (λ s. length s.lets) is ∙ lets_step sensors cells (get_or code at d) now in
-    rw (height, lets) (room_on code at d (length now.below) (length now.lets) below)
+    (code : List Instruction) (at : ℕ) (d : Instruction) (height lets later_height later_lets : ℕ) → at < length code →
+    later_height ≡ height_after (get_or code at d) height → later_lets ≡ lets_after (get_or code at d) lets →
+    room_from (drop (at + 1) code) later_height later_lets ≤ room_from (drop at code) height lets
+room_later code at d height lets later_height later_lets below is_height is_lets =
+    rw (is_height, is_lets) (room_on code at d height lets below)
 
 -- the results that are left
 pub count_on : (code : List Instruction) (at : ℕ) (d : Instruction) → at < length code →

@@ -1,4 +1,3 @@
 pub mod Machine
-pub mod Buffer
 pub mod Compiler
 pub mod Correct

@@ -1,10 +1,10 @@
 -- What instructions do with a stack of numbers, and how many numbers they hold. This project's own.
-use Rattle.std.specs.Prelude.{ℕ, ◌+◌, ◌-◌, max, ℤ, pos, not, List, [], ◌∷◌, ◌++◌, slice_index_or, if◌then◌else◌}
+use Rattle.std.specs.Prelude.{ℕ, ◌+◌, ◌-◌, max, ℤ, pos, not, List, [], ◌∷◌, ◌++◌, take, drop, slice_index_or, if◌then◌else◌}
 use Rattle.std.specs.Int.{int_min, int_max}
 use Rattle.rcp_base.specs.Arithmetic.{negation_of, magnitude_of}
 use Rattle.rcp_model.specs.declared.expr.Op.{Op}
 use Rattle.rcp_model.specs.Expr.{is_true, truth, op_result}
-use Rattle.task_code.specs.Buffer.{Buffer}
+use Rattle.task_code.specs.declared.machine.Progress.{Progress}
 use Rattle.task_code.specs.declared.instruction.Instruction.{Instruction}
 use Rattle.task_code.specs.declared.instruction.Instruction.TheVariants.{Number, Sensor, Cell, Let, Neg, Not, Abs, Two, WithNumber, WithSensor, WithCell, WithLet, Clamp, If, Keep, Give}
 
@@ -15,10 +15,10 @@ pub record State : Type 0 where
   pub lets : List ℤ
   pub results : List ℤ
 
--- the state with this top and these buffers
-abbrev pub state_of : ℤ → Buffer → Buffer → List ℤ → State
-state_of top below lets results =
-    record { top = top; below = below.numbers; lets = lets.numbers; results = results }
+-- the state of a run that has come so far, with what its places hold
+abbrev pub state_of : Progress → List ℤ → List ℤ → List ℤ → State
+state_of at stack lets out =
+    record { top = at.top; below = drop at.below stack; lets = take at.lets lets; results = take at.given out }
 
 -- the state before the first instruction
 abbrev pub start : State

@@ -7,9 +7,7 @@ mod compiler;
 mod emit;
 mod instruction;
 mod machine;
-mod row;
 mod runner;
-mod stack;
 mod steps;
 mod value;
 

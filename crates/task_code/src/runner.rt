@@ -20,13 +20,13 @@ pub struct Runner {
 }
 
 impl Model for Runner {
-    ghost use Rattle.std.specs.Prelude.{ℕ, ◌≡◌};
+    ghost use Rattle.std.specs.Prelude.{ℕ, ◌≡◌, length};
 
     ghost Value = { ℕ };
 
     ghost view = { λ runner. runner.room };
 
-    ghost invariant = { λ runner. (runner.machine.stack.room ≡ runner.room) × (runner.machine.lets.room ≡ runner.room) };
+    ghost invariant = { λ runner. (length runner.machine.stack.items ≡ runner.room) × (length runner.machine.lets.items ≡ runner.room) };
 }
 
 impl Runner {
