@@ -17,8 +17,12 @@ pub record State : Type 0 where
 
 -- the state of a run that has come so far, with what its places hold
 abbrev pub state_of : Progress → List ℤ → List ℤ → List ℤ → State
-state_of at stack lets out =
-    record { top = at.top; below = drop at.below stack; lets = take at.lets lets; results = take at.given out }
+state_of at stack lets out = record {
+  top = at.top;
+  below = drop at.below stack;
+  lets = take at.lets lets;
+  results = take at.given out;
+}
 
 -- the state before the first instruction
 abbrev pub start : State

@@ -19,8 +19,8 @@ pub struct Machine {
     pub lets: Vec<i64>,
 }
 
-/// What a run holds at hand: the top of its stack, the place where what stands below the top begins, and how many lets
-/// and results it has.
+/// What a run holds at hand: the top of its stack, the place where what stands below it begins,
+/// and how many lets and results it has.
 #[derive(Clone, Copy, Debug)]
 pub struct Progress {
     pub top: i64,
@@ -231,7 +231,8 @@ fn clamp(stack: &[i64], at: Progress) -> Progress
 #[inline(always)]
 fn choose(stack: &[i64], at: Progress) -> Progress
     requires { at.below ≤ length stack.now }
-    ensures top { result.top ≡ if expr.is_true (machine.top_of (machine.rest_of (drop at.below stack.now)))
+    ensures top { result.top
+        ≡ if expr.is_true (machine.top_of (machine.rest_of (drop at.below stack.now)))
         then machine.top_of (drop at.below stack.now) else at.top }
     ensures rest { drop result.below stack.now
         ≡ machine.rest_of (machine.rest_of (drop at.below stack.now)) }
