@@ -1,10 +1,10 @@
 -- The texts of numbers and what they are worth.
-use Rattle.std.proofs.Common.{◌≡◌, ◌≢◌, ◌&&◌, ℕ, ◌==◌, List, [], ◌∷◌, length, Bool, true, false, nat_le, ℤ, pos, negsuc, FitsSigned, Some, None, Option, Result, Ok, Err, refl, subst, suc, zero, neg_ℤ, inl, inr, rules, arith, slice_index}
+use Rattle.std.proofs.Common.{◌≡◌, ◌≢◌, ◌&&◌, ℕ, ◌==◌, List, [], ◌∷◌, length, Bool, true, false, nat_le, ℤ, pos, negsuc, FitsSigned, Some, None, Result, Ok, Err, refl, subst, suc, zero, neg_ℤ, inl, inr, rules, arith, slice_index}
 use Rattle.std.proofs.lemmas.Bool.{and_parts, eqb-true, le-leb, leb-true, ne_eqb}
 use Rattle.std.proofs.lemmas.Bool.Decides.{eqb_tells}
 use Rattle.std.proofs.lemmas.Fmt.{IsAscii-from_digits}
 use Rattle.std.proofs.lemmas.Str.{IsUtf8-from_ascii}
-use Rattle.std.proofs.lemmas.Str.Parse.{IsNumeralModel, numerals_by_value, digit_from_value}
+use Rattle.std.proofs.lemmas.Str.Parse.{IsNumeralModel, numerals_by_value}
 use Rattle.std.specs.Bool.{if◌then◌else◌}
 use Rattle.std.specs.Char.{is_ascii_digit}
 use Rattle.std.specs.List.{list_all}

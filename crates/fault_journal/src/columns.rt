@@ -2,7 +2,7 @@
 //! This project's own.
 ghost use Rattle.std.specs.Prelude.{◌≡◌, ◌<◌, ◌≤◌, length, map, option_map, position, IfOk, IfSome, MatchOption, MatchResult, None, OnOk, OnSome, Some};
 ghost use Rattle.std.specs.Str.{bytes_eq};
-ghost use Rattle.rcp_base.specs.Answers.{found_or, place_in};
+ghost use Rattle.rcp_base.specs.Answers.{place_in};
 ghost use Rattle.rcp_model.specs.Plan.{IsPlan, variable_names, actuator_names};
 ghost use Rattle.fault_journal.specs.Columns as spec;
 ghost use Rattle.fault_journal.specs.Number.{integer_of};

@@ -58,12 +58,7 @@ pub(crate) fn put_rows(
 }
 
 // The same, whichever rows were written.
-fn overwrite(
-    setting: &Setting,
-    input: &FrameIn,
-    replica: u32,
-    commands: &mut Vec<Option<i64>>,
-)
+fn overwrite(setting: &Setting, input: &FrameIn, replica: u32, commands: &mut Vec<Option<i64>>)
     requires of { HasPlanWith setting.now input.now }
     requires replica { replica < setting.now.replicas }
     requires size { length commands.old.items ≡ setting.now.actuators }
